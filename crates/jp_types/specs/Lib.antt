@@ -1,0 +1,10 @@
+pub mod Views
+pub mod Causes
+pub mod Words
+pub mod Commands
+pub mod Reading
+pub mod Sizes
+pub mod Faults
+pub mod Statuses
+pub mod Streams
+pub mod ReplicaSets
