@@ -1,0 +1,6 @@
+//! The sequential key-value service: a store, each client's last reply, and the bytes of the whole state.
+#![tactic(auto)]
+
+pub mod outcome;
+pub mod state;
+pub mod store;
