@@ -1,0 +1,26 @@
+pub mod Basics
+pub mod Replies
+pub mod Counted
+pub mod Serving
+pub mod Sound
+pub mod Growth
+pub mod Runs
+pub mod Origins
+pub mod Rejoining
+pub mod Seen
+pub mod Back
+pub mod One
+pub mod Ballots
+pub mod Adopting
+pub mod Chosen
+pub mod Adopted
+pub mod Standing
+pub mod Listed
+pub mod Witness
+pub mod Once
+pub mod Listing
+pub mod Whole
+pub mod WitnessViews
+pub mod Sending
+mod TurnExamples
+pub mod Turning
