@@ -1,0 +1,13 @@
+pub mod Answers
+pub mod Keyed
+pub mod Lane
+pub mod Lanes
+pub mod Leads
+pub mod Learning
+pub mod Log
+pub mod Messages
+pub mod ProtocolStage
+pub mod Sends
+pub mod Tally
+pub mod Turned
+pub mod Whole
