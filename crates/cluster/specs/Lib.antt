@@ -1,0 +1,10 @@
+pub mod Schedule
+pub mod Batching
+pub mod Cluster
+pub mod Run
+pub mod Text
+pub mod Forms
+pub mod Reading
+pub mod Generator
+pub mod Lines
+pub mod Heads

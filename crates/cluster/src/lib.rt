@@ -1,0 +1,12 @@
+//! Several replicas in one process, driven by a schedule of stage steps, deliveries and crashes, and the text of their run.
+#![tactic(auto)]
+
+pub mod event;
+pub mod line;
+pub mod read_line;
+pub mod schedule;
+pub mod show_line;
+pub mod show_parts;
+pub mod show_step;
+pub mod stepper;
+pub mod text;
