@@ -1,0 +1,91 @@
+-- What a schedule is answered: the status, and the text that is written.
+use Rattle.std.specs.Prelude.{◌≡◌, ℕ, true, false, List, [], ◌∷◌, take, Option, IfSome, Ok, Err, ◌⊎◌}
+use Rattle.std.specs.Io.KnownBytes.{Appends}
+use Rattle.jp_types.specs.declared.status.Status.{Status}
+use Rattle.jp_types.specs.declared.status.Status.TheVariants.{Done, Usage, BadSchedule, TooLarge, ReadFault, WriteFault, NoMemory}
+use Rattle.cluster.specs.declared.schedule.Schedule.{Schedule}
+use Rattle.cluster.specs.declared.event.Run.{Run}
+use Rattle.cluster.specs.Schedule.{Bad, is_too_long, has_too_many_lines, read_forms}
+use Rattle.cluster.specs.Forms.{built}
+use Rattle.cluster.specs.Lines.{HasLines}
+use Rattle.cluster.specs.Text.{show}
+use Rattle.jpaxos.specs.Words.{refusal}
+
+-- an input within the sizes
+pub record Fits (input : List ℕ) : Type 0 where
+  pub bytes : is_too_long input ≡ false
+  pub lines : has_too_many_lines input ≡ false
+
+-- the text of a run with a schedule's lines
+pub record IsShown (schedule : Schedule) (text : List ℕ) : Type 0 where
+  pub run : Run
+  pub lines : HasLines schedule run
+  pub shown : text ≡ show run
+
+-- an input that spells a schedule, and the text of a run with its lines
+pub record IsRunText (input text : List ℕ) : Type 0 where
+  pub fits : Fits input
+  pub schedule : Schedule
+  pub reads : read_forms built input ≡ Ok schedule
+  pub shown : IsShown schedule text
+
+-- an input whose first bad line is this one, and the line that tells it
+pub record IsBadLine (input text : List ℕ) (status : Status) (bad : Bad) : Type 0 where
+  pub fits : Fits input
+  pub reads : read_forms built input ≡ Err bad
+  pub told : text ≡ refusal status
+
+-- an input with too many bytes, and the line that tells it
+pub record HasTooManyBytes (input text : List ℕ) : Type 0 where
+  pub bytes : is_too_long input ≡ true
+  pub told : text ≡ refusal (TooLarge 1)
+
+-- an input with too many lines, within the limit of bytes, and the line that tells it
+pub record HasTooManyLines (input text : List ℕ) : Type 0 where
+  pub bytes : is_too_long input ≡ false
+  pub lines : has_too_many_lines input ≡ true
+  pub told : text ≡ refusal (TooLarge 2)
+
+-- an input that is too large, by the limit that it passes: 1 for bytes, 2 for lines
+abbrev pub IsTooLarge : List ℕ → List ℕ → ℕ → Type 0
+IsTooLarge input text kind = ((kind ≡ 1) × HasTooManyBytes input text) ⊎ ((kind ≡ 2) × HasTooManyLines input text)
+
+-- the answer to an input: its status, with its text
+abbrev pub IsAnswer : List ℕ → List ℕ → Status → Type 0
+IsAnswer input text Done = IsRunText input text
+IsAnswer input text (BadSchedule line cause) = IsBadLine input text (BadSchedule line cause) (record { line = line; cause = cause })
+IsAnswer input text (TooLarge kind) = IsTooLarge input text kind
+IsAnswer input text _ = ⊥
+
+-- the whole input was answered so: what was held is followed by the text of the answer
+abbrev pub Answers : Option (List ℕ) → Option (List ℕ) → Option (List ℕ) → Status → Type 0
+Answers left held held_after status = IfSome left (λ input. (text : List ℕ) × (IsAnswer input text status × Appends held held_after text))
+
+-- what was held is followed by a beginning of the text of an answer to the input
+abbrev pub BeginsAnswer : Option (List ℕ) → Option (List ℕ) → Option (List ℕ) → Type 0
+BeginsAnswer left held held_after =
+    IfSome left (λ input. (status : Status) × ((text : List ℕ) × (IsAnswer input text status × ((count : ℕ) × Appends held held_after (take count text)))))
+
+-- the statuses that a schedule can be answered with
+abbrev pub IsClusterStatus : Status → Type 0
+IsClusterStatus Done = Unit {0}
+IsClusterStatus (BadSchedule line cause) = Unit {0}
+IsClusterStatus (TooLarge kind) = Unit {0}
+IsClusterStatus ReadFault = Unit {0}
+IsClusterStatus WriteFault = Unit {0}
+IsClusterStatus NoMemory = Unit {0}
+IsClusterStatus _ = ⊥
+
+-- those that tell an answer that was written whole
+abbrev pub IsTold : Status → Type 0
+IsTold Done = Unit {0}
+IsTold (BadSchedule line cause) = Unit {0}
+IsTold (TooLarge kind) = Unit {0}
+IsTold _ = ⊥
+
+-- the statuses where the words are no command
+abbrev pub IsUsageStatus : Status → Type 0
+IsUsageStatus Usage = Unit {0}
+IsUsageStatus WriteFault = Unit {0}
+IsUsageStatus NoMemory = Unit {0}
+IsUsageStatus _ = ⊥

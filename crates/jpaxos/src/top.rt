@@ -1,0 +1,127 @@
+//! The calls that the program makes.
+
+ghost use Rattle.std.specs.Prelude.{◌≡◌, ◌≢◌, ◌+◌, ℕ, map, take, string_bytes};
+ghost use Rattle.std.specs.Io.KnownBytes.{Appends, IsAtEnd};
+ghost use Rattle.jp_types.specs.Faults.{Rose};
+ghost use Rattle.jpaxos.specs.Answers.{Answers, BeginsAnswer, IsClusterStatus, IsTold, IsUsageStatus};
+ghost use Rattle.jpaxos.specs.Taking.{TakesAtMost};
+ghost use Rattle.jpaxos.specs.Words.{IsCluster, is_cluster, usage_line};
+
+use crate::answer::{Answer, answer_to, too_many_bytes, usage};
+use crate::input::{INPUT_LIMIT, Unread, read_all};
+use jp_types::sink::{Sink, write_all};
+use jp_types::source::Source;
+use jp_types::status::Status;
+use std::alloc::Global;
+
+/// Writes an answer, and gives its status where it was written whole.
+fn tell<K: Sink>(sink: &mut K, answer: &Answer) -> Status
+    ensures told { result ≢ Status.WriteFault → (result ≡ answer.now.status) × Appends (K.held sink.old) (K.held sink.new) answer.now.text }
+    ensures write { result ≡ Status.WriteFault → answer.now.status ≢ Status.WriteFault → Rose (K.faults sink.old) (K.faults sink.new) }
+    ensures begun { result ≡ Status.WriteFault → answer.now.status ≢ Status.WriteFault → (count : ℕ) × Appends (K.held sink.old) (K.held sink.new) (take count answer.now.text) }
+{
+    match write_all(sink, answer.text.bytes()) {
+        Ok(()) => answer.status,
+        Err(_) => Status::WriteFault,
+    }
+}
+
+/// Reads a schedule from the source, runs it, and writes the text of its run. The text is proved to answer the
+/// schedule's lines, in order; that its words, steps and last states are those of the definitions is not proved yet.
+pub fn run_cluster<S: Source, K: Sink>(alloc: Global, source: &mut S, sink: &mut K) -> Status
+    ensures status { IsClusterStatus result }
+
+    // A run, or a refusal of the input, is told whole, and nothing else is written.
+    ensures told { IsTold result → Answers (S.left source.old) (K.held sink.old) (K.held sink.new) result }
+
+    // The input was read to its end, but where it has too many bytes, and then to one past the limit.
+    ensures end { IsTold result → result ≢ Status.TooLarge 1 → IsAtEnd (S.left source.new) }
+    ensures taken { TakesAtMost (INPUT_LIMIT + 1) (S.left source.old) (S.left source.new) }
+
+    ensures read { result ≡ Status.ReadFault → Rose (S.faults source.old) (S.faults source.new) }
+    ensures unread { result ≡ Status.ReadFault → K.held sink.new ≡ K.held sink.old }
+    ensures write { result ≡ Status.WriteFault → Rose (K.faults sink.old) (K.faults sink.new) }
+    ensures begun { result ≡ Status.WriteFault → BeginsAnswer (S.left source.old) (K.held sink.old) (K.held sink.new) }
+    ensures memory { result ≡ Status.NoMemory → K.held sink.new ≡ K.held sink.old }
+{
+    let input = match read_all(alloc, source) {
+        Ok(input) => input,
+        Err(Unread::TooLarge) => {
+            return match too_many_bytes(alloc) {
+                Ok(answer) => tell(sink, &answer),
+                Err(_) => Status::NoMemory,
+            };
+        }
+        Err(Unread::Fault) => return Status::ReadFault,
+        Err(Unread::NoMemory) => return Status::NoMemory,
+    };
+    match answer_to(alloc, &input) {
+        Ok(answer) => tell(sink, &answer),
+        Err(_) => Status::NoMemory,
+    }
+}
+
+/// Whether the words are the command `cluster`.
+fn is_cluster(words: &[String]) -> bool
+    ensures { result ≡ is_cluster (map string_bytes words.now) }
+{
+    match words {
+        [word] => word.as_bytes() == b"cluster".as_slice(),
+        _ => false,
+    }
+}
+
+/// Writes the usage line.
+fn tell_usage<K: Sink>(alloc: Global, sink: &mut K) -> Status
+    ensures status { IsUsageStatus result }
+    ensures told { result ≡ Status.Usage → Appends (K.held sink.old) (K.held sink.new) usage_line }
+    ensures write { result ≡ Status.WriteFault → Rose (K.faults sink.old) (K.faults sink.new) }
+    ensures begun { result ≡ Status.WriteFault → (count : ℕ) × Appends (K.held sink.old) (K.held sink.new) (take count usage_line) }
+    ensures memory { result ≡ Status.NoMemory → K.held sink.new ≡ K.held sink.old }
+{
+    match usage(alloc) {
+        Ok(text) => match write_all(sink, text.bytes()) {
+            Ok(()) => Status::Usage,
+            Err(_) => Status::WriteFault,
+        },
+        Err(_) => Status::NoMemory,
+    }
+}
+
+/// Runs the command that the words after the program's name spell.
+pub fn jpaxos_top<S: Source, K: Sink>(
+    alloc: Global,
+    words: &[String],
+    source: &mut S,
+    sink: &mut K,
+) -> Status
+    // Words that are no command are answered Usage, with the usage line.
+    ensures usage { result ≡ Status.Usage → ¬ IsCluster (map string_bytes words.now) }
+    ensures usage_status { ¬ IsCluster (map string_bytes words.now) → IsUsageStatus result }
+    ensures usage_told { result ≡ Status.Usage → Appends (K.held sink.old) (K.held sink.new) usage_line }
+    ensures usage_reads { ¬ IsCluster (map string_bytes words.now) → S.left source.new ≡ S.left source.old }
+    ensures usage_begun { result ≡ Status.WriteFault → ¬ IsCluster (map string_bytes words.now) → (count : ℕ) × Appends (K.held sink.old) (K.held sink.new) (take count usage_line) }
+
+    // The word `cluster` is answered as `run_cluster` answers.
+    ensures cluster_status { IsCluster (map string_bytes words.now) → IsClusterStatus result }
+    ensures cluster_told { IsTold result → Answers (S.left source.old) (K.held sink.old) (K.held sink.new) result }
+    ensures cluster_end { IsTold result → result ≢ Status.TooLarge 1 → IsAtEnd (S.left source.new) }
+    ensures cluster_taken { IsCluster (map string_bytes words.now) → TakesAtMost (INPUT_LIMIT + 1) (S.left source.old) (S.left source.new) }
+    ensures cluster_begun { result ≡ Status.WriteFault → IsCluster (map string_bytes words.now) → BeginsAnswer (S.left source.old) (K.held sink.old) (K.held sink.new) }
+
+    ensures read { result ≡ Status.ReadFault → Rose (S.faults source.old) (S.faults source.new) }
+    ensures unread { result ≡ Status.ReadFault → K.held sink.new ≡ K.held sink.old }
+    ensures write { result ≡ Status.WriteFault → Rose (K.faults sink.old) (K.faults sink.new) }
+    ensures memory { result ≡ Status.NoMemory → K.held sink.new ≡ K.held sink.old }
+{
+    if is_cluster(words) {
+        run_cluster(alloc, source, sink)
+    } else {
+        tell_usage(alloc, sink)
+    }
+}
+
+#[cfg(test)]
+mod schedules;
+#[cfg(test)]
+mod tests;
