@@ -11,11 +11,13 @@ use Rattle.kv_service.specs.Service.{State}
 use Rattle.kv_service.specs.StateBytes.{state_bytes}
 use Rattle.jp_types.specs.Views.{majority, leader, count_below}
 use Rattle.paxos_world.specs.Setup.{Setup}
-use Rattle.paxos_world.specs.Life.{Batch, LifeId, Leading, No, Preparing, Leads, Life, next_of}
+use Rattle.paxos_world.specs.Life.{LifeId, Leading, No, Preparing, Leads, Life, next_of}
+use Rattle.jp_types.specs.Instances.{Batch}
 use Rattle.paxos_world.specs.Counting.{Held, is_recovering, counted_ok, counted_answer, is_promised, is_answered}
 use Rattle.paxos_world.specs.Adoption.{counted_report}
-use Rattle.paxos_world.specs.World.{World, Deed, Take, Enter, Open, Promise, Prepared, Launch, Vote, Learn, Answer, Rejoin, Install, Execute, Restore, Say, Move, First, Return, Crash, Act, part_size, after, opening}
-use Rattle.paxos_world.specs.Logs.{entry_by}
+use Rattle.paxos_world.specs.World.{World, Deed, Take, Enter, Open, Promise, Prepared, Launch, Vote, Learn, Answer, Rejoin, Install, Execute, Restore, Say, Move, First, Return, Crash, Act, after, opening}
+use Rattle.kv_service.specs.Parts.{part_size}
+use Rattle.jp_types.specs.Reports.{entry_by}
 use Rattle.cluster.specs.declared.schedule.Schedule.{Schedule}
 use Rattle.cluster.specs.Schedule.{Bad}
 use Rattle.cluster.specs.Run.{moves_of_run}

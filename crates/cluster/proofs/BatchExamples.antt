@@ -3,7 +3,7 @@ use Rattle.std.specs.Prelude.{◌≡◌, ℕ, true, false, [], ◌∷◌, ◌++�
 use Rattle.jp_types.specs.declared.command.Command.TheVariants.{Put, Get}
 use Rattle.jp_types.specs.declared.command.Request.{Request}
 use Rattle.jp_types.specs.Sizes.{request_size, batch_size}
-use Rattle.paxos_world.specs.Life.{Batch}
+use Rattle.jp_types.specs.Instances.{Batch}
 use Rattle.cluster.specs.Batching.{Asked, Tick, is_closed_by, cut}
 
 -- a Put with a key of one byte and a value of so many

@@ -4,7 +4,8 @@ use Rattle.jp_types.specs.declared.command.Command.{Command}
 use Rattle.jp_types.specs.declared.command.Command.TheVariants.{Put, Get, Del, Cas}
 use Rattle.jp_types.specs.declared.message.Entry.{Entry}
 use Rattle.jp_types.specs.declared.message.Message.{Message}
-use Rattle.paxos_world.specs.Life.{Batch, LifeId}
+use Rattle.paxos_world.specs.Life.{LifeId}
+use Rattle.jp_types.specs.Instances.{Batch}
 
 abbrev pub sized : List ℕ → List ℕ
 sized xs = length xs ∷ xs

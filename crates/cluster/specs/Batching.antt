@@ -2,7 +2,7 @@
 use Rattle.std.specs.Prelude.{ℕ, suc, ◌+◌, Bool, true, false, ◌||◌, List, [], ◌∷◌, ◌++◌, length, nat_lt}
 use Rattle.jp_types.specs.declared.command.Request.{Request}
 use Rattle.jp_types.specs.Sizes.{request_size, batch_size}
-use Rattle.paxos_world.specs.Life.{Batch}
+use Rattle.jp_types.specs.Instances.{Batch}
 
 -- what the Batcher takes
 pub data Fed : Type 0 where

@@ -2,7 +2,8 @@
 use Rattle.std.specs.Prelude.{ℕ, suc, Bool, List, [], ◌∷◌, length, replicate, nat_le, Option, Some, None, slice_set}
 use Rattle.jp_types.specs.declared.message.Message.{Message}
 use Rattle.paxos_world.specs.declared.step.Step.{Step}
-use Rattle.paxos_world.specs.Life.{Batch, LifeId}
+use Rattle.paxos_world.specs.Life.{LifeId}
+use Rattle.jp_types.specs.Instances.{Batch}
 use Rattle.paxos_world.specs.World.{Sent, Move}
 use Rattle.paxos_world.specs.Stage.{Config, Stage, Item, Decision, Act, Show, Send, Hand, Save}
 use Rattle.cluster.specs.declared.line.Head.{Head}

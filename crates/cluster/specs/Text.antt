@@ -13,7 +13,7 @@ use Rattle.kv_service.specs.declared.outcome.Kind.{Kind}
 use Rattle.kv_service.specs.declared.outcome.Kind.TheVariants.{First, Repeated, Passed}
 use Rattle.kv_service.specs.declared.outcome.Outcome.{Outcome}
 use Rattle.paxos_world.specs.declared.step.Step.{Step}
-use Rattle.paxos_world.specs.Life.{Batch}
+use Rattle.jp_types.specs.Instances.{Batch}
 use Rattle.cluster.specs.declared.line.Line.{Line}
 use Rattle.cluster.specs.declared.line.Word.{Word}
 use Rattle.cluster.specs.declared.line.Word.TheVariants.{Done, Empty, Full, Down, Up, Unsent}

@@ -9,7 +9,7 @@ use Rattle.jp_types.specs.declared.cause.Cause.TheVariants.{Number, Bytes, Later
 use Rattle.jp_types.specs.declared.command.Command.{Command}
 use Rattle.jp_types.specs.declared.command.Command.TheVariants.{Put, Get, Del, Cas}
 use Rattle.jp_types.specs.declared.mode.Mode.{Mode}
-use Rattle.jp_types.specs.Words.{◌>>=◌, where_so, or_cause, words_of, is_numeral, number, is_hex, hex_bytes, word_bytes, bytes_within}
+use Rattle.jp_types.specs.Words.{◌>>=◌, where_so, is_empty, or_cause, words_of, is_numeral, number, is_hex, hex_bytes, word_bytes, bytes_within}
 use Rattle.jp_types.specs.Commands.{key, value, old_value, put_of, get_of, del_of, cas_of, command}
 use Rattle.cluster.specs.declared.line.Head.{Head}
 use Rattle.cluster.specs.declared.line.Line.{Line}
@@ -84,11 +84,15 @@ hex-fits (c ∷ []) bs e = absurd cc
 hex-fits (c ∷ d ∷ ds) bs e = hex-step c d (hex_bytes ds) bs (hex-fits ds) e
 
 word-fits : (word bs : List ℕ) → word_bytes word ≡ Some bs → AreBytes bs
-word-fits word bs = go (bytes_eq word (codes "-"))
+word-fits word bs = none (is_empty word)
   where
     go : (b : Bool) → (if b then Some [] else hex_bytes word) ≡ Some bs → AreBytes bs
     go true e = let same : [] ≡ bs = cc in subst AreBytes same no-bytes
     go false e = hex-fits word bs e
+
+    none : (b : Bool) → (if b then None else (if bytes_eq word (codes "-") then Some [] else hex_bytes word)) ≡ Some bs → AreBytes bs
+    none true e = absurd cc
+    none false e = go (bytes_eq word (codes "-")) e
 
 found : (o : Option (List ℕ)) (bs : List ℕ) (cause : Cause) → or_cause o cause ≡ Ok bs → o ≡ Some bs
 found (Some x) bs cause e = cc

@@ -6,7 +6,8 @@ use Rattle.kv_service.specs.StateBytes.{state_bytes}
 use Rattle.kv_service.specs.StateReading.{read_state, state_in}
 use Rattle.paxos_world.specs.declared.step.Step.{Step}
 use Rattle.paxos_world.specs.Setup.{In}
-use Rattle.paxos_world.specs.Life.{Batch, Life}
+use Rattle.paxos_world.specs.Life.{Life}
+use Rattle.jp_types.specs.Instances.{Batch}
 use Rattle.paxos_world.specs.World.{World, Sent, Move, Rejoin, Execute, CanRejoin, opening}
 use Rattle.paxos_world.specs.Trace.{Trace, Runs, Does, IsRun, end_of}
 use Rattle.paxos_world.specs.ListOf.{list_of}
@@ -30,7 +31,8 @@ use Rattle.paxos_world.specs.World.{Restore}
 use Rattle.std.specs.Option.{option_map}
 use Rattle.paxos_world.specs.Stage.{Config, setup_of, free_slots, Item, Came, Suspect, Decision, Decided, Installed, Act, Show, Send, Hand, Save, Turned}
 use Rattle.paxos_world.specs.Writing.{when, shows}
-use Rattle.paxos_world.specs.Serving.{is_due, makes_snapshot, serves}
+use Rattle.paxos_world.specs.Serving.{makes_snapshot, serves}
+use Rattle.kv_service.specs.Dues.{is_due}
 use Rattle.paxos_world.specs.Turn.{untouched, turn, Opened, retransmit}
 use Rattle.paxos_world.specs.Turn as T
 use Rattle.cluster.specs.Batching.{Fed, Asked, is_closed_by}

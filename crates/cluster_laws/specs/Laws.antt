@@ -7,7 +7,8 @@ use Rattle.kv_service.specs.Service.{State, start, serve, outcomes}
 use Rattle.kv_service.specs.StateBytes.{state_bytes}
 use Rattle.paxos_world.specs.declared.step.Step.{Step}
 use Rattle.paxos_world.specs.Setup.{Setup, In}
-use Rattle.paxos_world.specs.Life.{Batch, Life}
+use Rattle.paxos_world.specs.Life.{Life}
+use Rattle.jp_types.specs.Instances.{Batch}
 use Rattle.paxos_world.specs.World.{Replica, World, Sent, Move, Deed, Act, Rejoin, Execute, CanRejoin, opening}
 use Rattle.paxos_world.specs.Trace.{IsRun, end_of}
 use Rattle.paxos_world.specs.ListOf.{list_of}

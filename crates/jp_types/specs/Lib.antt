@@ -8,3 +8,8 @@ pub mod Faults
 pub mod Statuses
 pub mod Streams
 pub mod ReplicaSets
+pub mod Instances
+pub mod Reports
+pub mod Vectors
+pub mod Marks
+pub mod Keyed

@@ -6,3 +6,7 @@ pub mod Service
 pub mod Prefix
 pub mod StateBytes
 pub mod StateReading
+pub mod Parts
+pub mod StateTelling
+pub mod Limits
+pub mod Dues

@@ -6,7 +6,8 @@ use Rattle.jp_types.specs.declared.message.PrepareOk.{PrepareOk}
 use Rattle.jp_types.specs.declared.message.Prepare.{Prepare}
 use Rattle.jp_types.specs.Views.{leader}
 use Rattle.paxos_world.specs.Setup.{In}
-use Rattle.paxos_world.specs.Life.{Batch, Launched, Lead, Leading, No, Preparing, Leads, Life, IsKnown, next_of}
+use Rattle.paxos_world.specs.Life.{Launched, Lead, Leading, No, Preparing, Leads, Life, IsKnown, next_of}
+use Rattle.jp_types.specs.Instances.{Batch}
 use Rattle.paxos_world.specs.Counting.{Held, counted_ok, is_promised}
 use Rattle.paxos_world.specs.World.{Ballot, Launch, life_after, MayLaunch, CanRejoin, CanPromise, CanPrepared, MayLaunch}
 use Rattle.paxos_world.specs.Trace.{Trace, at, Runs, IsChosen}
@@ -21,7 +22,8 @@ use Rattle.paxos_world.specs.Laws.{ChosenAreAdopted, OneChosen}
 use Rattle.paxos_world.proofs.Seen.{can-rejoin}
 use Rattle.paxos_world.proofs.Back.{same_mark, MemberOf, member-of, can-prepared, promised-counts, rejoin-view, counted_come_back, returned_come_back}
 use Rattle.paxos_world.proofs.One.{WasPrepared, was_prepared, LaunchStep, launch-step, one_leader, prepared-leads}
-use Rattle.paxos_world.specs.Adoption.{decided_entry, voted_entry, report_in, counted_report, adopted_by}
+use Rattle.paxos_world.specs.Adoption.{report_in, counted_report, adopted_by}
+use Rattle.jp_types.specs.Reports.{decided_entry, voted_entry}
 use Rattle.paxos_world.proofs.Ballots.{IsLaunched, later_launched, took-sent, IsCast, cast-by, vote-kept, vote-real}
 use Rattle.paxos_world.proofs.Adopting.{option_is, IsAtLeast, Agrees, Shows, By_known, By_decided, By_vote, By_own, adopted-is, vote_in-has, vote_in-from}
 use Rattle.paxos_world.proofs.Back.{answered-after}

@@ -4,8 +4,11 @@ use Rattle.std.specs.Option.{unwrap_or, option_or, option_map}
 use Rattle.std.proofs.lemmas.Bool.Decides.{eqb_tells, leb_tells}
 use Rattle.jp_types.specs.declared.message.Entry.{Entry}
 use Rattle.paxos_world.specs.Setup.{In}
-use Rattle.paxos_world.specs.Life.{Batch, Life}
-use Rattle.paxos_world.specs.Adoption.{decided_entry, voted_entry, decided_of, vote_of, decided_in, vote_in, decided_below, higher, highest_below, adopted_by}
+use Rattle.paxos_world.specs.Life.{Life}
+use Rattle.jp_types.specs.Instances.{Batch}
+use Rattle.paxos_world.specs.Adoption.{adopted_by}
+use Rattle.jp_types.specs.Reports.{decided_below, highest_below}
+use Rattle.jp_types.specs.Reports.{decided_entry, voted_entry, decided_of, vote_of, decided_in, vote_in, higher}
 use Rattle.paxos_world.proofs.Replies.{same, same-test}
 
 some-same : {X : Type 0} (x y : X) → Some x ≡ Some y → x ≡ y

@@ -10,7 +10,8 @@ use Rattle.jp_types.specs.declared.mode.Mode.TheVariants.{ViewSs, EpochSs}
 use Rattle.jp_types.specs.Views.{leader}
 use Rattle.paxos_world.specs.Setup.{Setup}
 use Rattle.paxos_world.specs.Life.{LifeId, Life, Took}
-use Rattle.paxos_world.specs.Counting.{Held, entry, table, entry_in, counted_ok, counted_answer, is_promised, is_answered}
+use Rattle.paxos_world.specs.Counting.{Held, entry_in, counted_ok, counted_answer, is_promised, is_answered}
+use Rattle.jp_types.specs.Vectors.{entry, table}
 use Rattle.paxos_world.specs.World.{Sent, Deed, Promise, Prepared, Answer, Rejoin, life_after, Act, CanPromise, CanPrepared}
 use Rattle.paxos_world.specs.Trace.{Trace, at, Runs, Does}
 use Rattle.paxos_world.specs.Laws.{Rejoins, BecomesPrepared, CountsLife}

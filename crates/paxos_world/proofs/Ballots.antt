@@ -5,7 +5,8 @@ use Rattle.jp_types.specs.declared.message.Propose.{Propose}
 use Rattle.jp_types.specs.declared.mode.Phase.TheVariants.{Working}
 use Rattle.jp_types.specs.Views.{leader}
 use Rattle.paxos_world.specs.Setup.{Setup, In}
-use Rattle.paxos_world.specs.Life.{Batch, Launched, Lead, Leads, Life, Took}
+use Rattle.paxos_world.specs.Life.{Launched, Lead, Leads, Life, Took}
+use Rattle.jp_types.specs.Instances.{Batch}
 use Rattle.paxos_world.specs.World.{Replica, Ballot, Sent, World, Deed, Launch, Vote, Learn, Say, Can, Allowed, life_after, Move, First, Return, Crash, Act, who, replica_after, ballots, ballots_of, HasProposal, of_running, id_of}
 use Rattle.paxos_world.specs.Trace.{Trace, at, Runs, Does}
 use Rattle.paxos_world.proofs.Basics.{with_at-cases, with_at-same, In-append, In-left, In-right}

@@ -7,8 +7,10 @@ use Rattle.jp_types.specs.declared.message.Accept.{Accept}
 use Rattle.jp_types.specs.declared.message.CatchUpReply.{CatchUpReply}
 use Rattle.jp_types.specs.Views.{leader}
 use Rattle.paxos_world.specs.Setup.{Setup, In}
-use Rattle.paxos_world.specs.Life.{Batch, LifeId, Life}
-use Rattle.paxos_world.specs.Counting.{Held, entry, counted_ok}
+use Rattle.paxos_world.specs.Life.{LifeId, Life}
+use Rattle.jp_types.specs.Instances.{Batch}
+use Rattle.paxos_world.specs.Counting.{Held, counted_ok}
+use Rattle.jp_types.specs.Vectors.{entry}
 use Rattle.paxos_world.specs.World.{Ballot, Sent, World, Deed, Promise, Launch, Vote, Learn, Say, Act, ballots, ballots_of, HasAccepted, MayLearn, By_votes, By_report, By_catch_up, CanPromise, of_running, id_of}
 use Rattle.paxos_world.specs.Trace.{Trace, at, Runs, Does, IsChosenIn}
 use Rattle.paxos_world.specs.Laws.{BecomesPrepared}
@@ -19,7 +21,8 @@ use Rattle.paxos_world.proofs.Origins.{IsPromised, IsSaying, promise-from, IsSen
 use Rattle.paxos_world.specs.Laws.{KnownAreChosen}
 use Rattle.paxos_world.proofs.Back.{can-prepared}
 use Rattle.paxos_world.proofs.One.{was_prepared, launch-step, one_batch, prepared-leads}
-use Rattle.paxos_world.specs.Adoption.{decided_entry, report_in, counted_report}
+use Rattle.paxos_world.specs.Adoption.{report_in, counted_report}
+use Rattle.jp_types.specs.Reports.{decided_entry}
 use Rattle.paxos_world.proofs.Ballots.{IsLaunched, later_launched, took-sent, proposal-from, votes-up, cast-by, learnt}
 use Rattle.paxos_world.proofs.Adopting.{option_is}
 

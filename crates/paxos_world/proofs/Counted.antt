@@ -9,7 +9,8 @@ use Rattle.paxos_world.specs.Setup.{Setup}
 use Rattle.paxos_world.specs.Life.{Life}
 use Rattle.paxos_world.specs.World.{Sent, Answer, life_after}
 use Rattle.paxos_world.specs.Trace.{Trace, Runs}
-use Rattle.paxos_world.specs.Counting.{Held, entry, table, entry_in, held_ok, held_answer, counted_ok, counted_answer, has_epoch_ok, has_epoch_answer, IsCrashConsistent, ok_vectors, answer_vectors, CoversOks, CoversAnswers}
+use Rattle.paxos_world.specs.Counting.{Held, entry_in, held_ok, held_answer, counted_ok, counted_answer, has_epoch_ok, has_epoch_answer, ok_vectors, answer_vectors, CoversOks, CoversAnswers}
+use Rattle.jp_types.specs.Vectors.{entry, table, IsCrashConsistent}
 use Rattle.paxos_world.specs.Laws.{CountedAreConsistent}
 use Rattle.paxos_world.proofs.Replies.{if-option, IsHeldOk, IsHeldAnswer, held_ok-is, held_answer-is, counted_ok-is, counted_answer-is, entry-held_ok, entry-held_answer, entry-table-le}
 use Rattle.paxos_world.proofs.Sound.{some-is}

@@ -4,7 +4,8 @@ use Rattle.jp_types.specs.declared.mode.Phase.TheVariants.{Working}
 use Rattle.jp_types.specs.declared.mode.Mode.{Mode}
 use Rattle.jp_types.specs.declared.mode.Mode.TheVariants.{ViewSs, EpochSs}
 use Rattle.paxos_world.specs.Setup.{Setup, with_at, In}
-use Rattle.paxos_world.specs.Life.{Batch, Taken, Launched, Lead, Leading, No, Preparing, Leads, Life, IsKnown, preparing_in}
+use Rattle.paxos_world.specs.Life.{Taken, Launched, Lead, Leading, No, Preparing, Leads, Life, IsKnown, preparing_in}
+use Rattle.jp_types.specs.Instances.{Batch}
 use Rattle.paxos_world.specs.Counting.{entry_in}
 use Rattle.paxos_world.specs.World.{executed_with, Replica, World, Deed, Take, Enter, Open, Promise, Prepared, Launch, Vote, Learn, Answer, Rejoin, Install, Execute, Restore, Say, Can, after, life_after, lead_of, lead_after, Move, First, Return, Crash, Act, Meets, who, replica_after}
 use Rattle.paxos_world.proofs.Basics.{le_or_lt, with_at-cases}

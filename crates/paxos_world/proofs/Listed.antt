@@ -1,7 +1,7 @@
 -- A list of steps as a run.
 use Rattle.std.proofs.Common.{◌≡◌, ℕ, zero, suc, ◌+◌, ◌-◌, ◌≤◌, List, [], ◌∷◌, length, slice_get, Option, refl, sym, ap, subst, ◌∙◌, arith}
 use Rattle.paxos_world.specs.Setup.{Setup}
-use Rattle.paxos_world.specs.Life.{Batch}
+use Rattle.jp_types.specs.Instances.{Batch}
 use Rattle.paxos_world.specs.World.{World, Move, after, opening}
 use Rattle.paxos_world.specs.Trace.{MayHappen, happens, world_from, Trace, at, IsChosenIn, IsChosen, IsRun, end_of}
 use Rattle.paxos_world.proofs.Chosen.{chosen-up}

@@ -3,7 +3,8 @@ use Rattle.std.proofs.Common.{◌≡◌, ℕ, zero, suc, ◌+◌, ◌≤◌, ◌
 use Rattle.std.proofs.lemmas.Bool.Decides.{leb_tells, nat_tests}
 use Rattle.jp_types.specs.Views.{majority, count_below}
 use Rattle.paxos_world.specs.Setup.{Setup, In}
-use Rattle.paxos_world.specs.Life.{Batch, LifeId}
+use Rattle.paxos_world.specs.Life.{LifeId}
+use Rattle.jp_types.specs.Instances.{Batch}
 use Rattle.paxos_world.specs.World.{World, Ballot, Move, opening}
 use Rattle.paxos_world.specs.Trace.{Trace, at, IsChosenIn, IsRun, end_of}
 use Rattle.paxos_world.specs.Served.{AreChosenFrom, IsList, AreChosenIn, ListIsChosen}

@@ -2,7 +2,8 @@
 use Rattle.std.proofs.Common.{◌≡◌, ℕ, suc, ◌≤◌, ◌<◌, ◌⊎◌, Some, if◌then◌else◌, ◌==◌, refl, sym, ap, subst, ◌∙◌, inl, inr, arith}
 use Rattle.jp_types.specs.Views.{leader}
 use Rattle.paxos_world.specs.Setup.{Setup}
-use Rattle.paxos_world.specs.Life.{Batch, Launched, Lead, Leads, Life}
+use Rattle.paxos_world.specs.Life.{Launched, Lead, Leads, Life}
+use Rattle.jp_types.specs.Instances.{Batch}
 use Rattle.paxos_world.specs.World.{Replica, World, Deed, Take, Enter, Open, Promise, Prepared, Launch, Vote, Learn, Answer, Rejoin, Install, Execute, Restore, Say, Can, Allowed, life_after, lead_of, lead_after, Move, First, Return, Crash, Act, who, replica_after, CanPrepared, CanLaunch}
 use Rattle.paxos_world.proofs.Replies.{counted_answer-is}
 use Rattle.paxos_world.specs.Trace.{Trace, at, Runs, Does}

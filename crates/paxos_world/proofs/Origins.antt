@@ -8,8 +8,10 @@ use Rattle.jp_types.specs.declared.message.Recovery.{Recovery}
 use Rattle.jp_types.specs.declared.message.Prepare.{Prepare}
 use Rattle.jp_types.specs.Views.{leader}
 use Rattle.paxos_world.specs.Setup.{Setup, In}
-use Rattle.paxos_world.specs.Life.{Batch, LifeId, Life}
-use Rattle.paxos_world.specs.Counting.{table, entry_in}
+use Rattle.paxos_world.specs.Life.{LifeId, Life}
+use Rattle.jp_types.specs.Instances.{Batch}
+use Rattle.paxos_world.specs.Counting.{entry_in}
+use Rattle.jp_types.specs.Vectors.{table}
 use Rattle.paxos_world.specs.World.{Sent, Deed, Take, Enter, Open, Promise, Prepared, Launch, Vote, Learn, Answer, Rejoin, Install, Execute, Restore, Say, Allowed, life_after, Move, First, Return, Crash, Act, sends, sends_of, of_running, to_others, id_of, MaySay}
 use Rattle.paxos_world.proofs.Basics.{In-append}
 use Rattle.paxos_world.specs.Trace.{Trace, at, Runs, Does}

@@ -6,7 +6,8 @@ use Rattle.jp_types.specs.declared.mode.Phase.TheVariants.{Working}
 use Rattle.jp_types.specs.declared.mode.Mode.TheVariants.{ViewSs, EpochSs}
 use Rattle.paxos_world.specs.Setup.{Setup}
 use Rattle.paxos_world.specs.Life.{LifeId, Life, Took, next_of}
-use Rattle.paxos_world.specs.Counting.{Held, entry, table, entry_in, counted_answer}
+use Rattle.paxos_world.specs.Counting.{Held, entry_in, counted_answer}
+use Rattle.jp_types.specs.Vectors.{entry, table}
 use Rattle.paxos_world.specs.World.{Replica, Sent, Deed, Answer, Rejoin, Allowed, life_after, Move, First, Return, Crash, Act, who, replica_after, CanAnswer}
 use Rattle.paxos_world.proofs.Replies.{counted_answer-is}
 use Rattle.paxos_world.proofs.Basics.{with_at-cases}

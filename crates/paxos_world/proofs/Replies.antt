@@ -9,7 +9,8 @@ use Rattle.jp_types.specs.declared.mode.Mode.{Mode}
 use Rattle.jp_types.specs.declared.mode.Mode.TheVariants.{ViewSs, EpochSs}
 use Rattle.paxos_world.specs.Setup.{Setup, In}
 use Rattle.paxos_world.specs.Life.{LifeId, Taken, Life}
-use Rattle.paxos_world.specs.Counting.{Held, entry, table, entry_in, entry_answered, entry_taken, entry_of_ok, entry_of_answer, own_ok, own_answer, is_view, is_recovering, ok_of, answer_of, better_ok, better_answer, is_less_answer, held_ok, held_answer, has_epoch_ok, has_epoch_answer, counted_ok, counted_answer}
+use Rattle.paxos_world.specs.Counting.{Held, entry_in, entry_answered, entry_taken, entry_of_ok, entry_of_answer, own_ok, own_answer, is_view, is_recovering, ok_of, answer_of, better_ok, better_answer, held_ok, held_answer, has_epoch_ok, has_epoch_answer, counted_ok, counted_answer}
+use Rattle.jp_types.specs.Vectors.{entry, table, is_less_answer}
 
 pub if-some : {X : Type 0} (b : Bool) (x y : X) → (if b then Some x else None) ≡ Some y → (b ≡ true) × (x ≡ y)
 if-some true x y e = (refl, cc)

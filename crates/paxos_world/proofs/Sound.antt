@@ -11,8 +11,11 @@ use Rattle.jp_types.specs.declared.mode.Mode.{Mode}
 use Rattle.jp_types.specs.declared.mode.Mode.TheVariants.{ViewSs, EpochSs}
 use Rattle.jp_types.specs.Views.{leader}
 use Rattle.paxos_world.specs.Setup.{Setup, with_at, In}
-use Rattle.paxos_world.specs.Life.{Batch, LifeId, Taken, Launched, Lead, Leading, No, Preparing, Leads, Life, IsKnown, IsFirstUnknown, preparing_in, new_life, first_mark, view_at_return}
-use Rattle.paxos_world.specs.Counting.{entry, table, entry_in, entry_of_ok, entry_of_answer, own_ok, own_answer, is_view, is_recovering}
+use Rattle.paxos_world.specs.Life.{LifeId, Taken, Launched, Lead, Leading, No, Preparing, Leads, Life, IsKnown, IsFirstUnknown, preparing_in, new_life}
+use Rattle.jp_types.specs.Instances.{Batch}
+use Rattle.jp_types.specs.Marks.{first_mark, view_at_return}
+use Rattle.paxos_world.specs.Counting.{entry_in, entry_of_ok, entry_of_answer, own_ok, own_answer, is_view, is_recovering}
+use Rattle.jp_types.specs.Vectors.{entry, table}
 use Rattle.paxos_world.specs.World.{Replica, Sent, World, Deed, Take, Enter, Open, Promise, Prepared, Launch, Vote, Learn, Answer, Rejoin, Install, Execute, Restore, Say, Can, after, opening, stable_after, raised, life_after, lead_of, lead_after, MayLaunch, CanRejoin, Move, First, Return, Crash, Act, Meets, CanAct, who, replica_after, act, IsNextMark, sends, sends_of, of_running, to_others, id_of, MaySay}
 use Rattle.paxos_world.proofs.Replies.{counted_answer-is, entry-table-le}
 use Rattle.paxos_world.proofs.Basics.{le_or_lt, with_at-cases, with_at-same, In-append, In-left}

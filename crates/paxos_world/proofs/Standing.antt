@@ -5,8 +5,10 @@ use Rattle.kv_service.specs.Service.{State, start, serve, execute}
 use Rattle.jp_types.specs.declared.mode.Phase.{Phase}
 use Rattle.jp_types.specs.declared.mode.Phase.TheVariants.{Recovering, Working}
 use Rattle.paxos_world.specs.Setup.{In}
-use Rattle.paxos_world.specs.Life.{Batch, Life, Took, new_life}
-use Rattle.paxos_world.specs.World.{part_size, IsPart, CanInstall, executed_with, Replica, Sent, World, Deed, Take, Enter, Open, Promise, Prepared, Launch, Vote, Learn, Answer, Rejoin, Install, Execute, Restore, Say, Can, Allowed, after, life_after, Move, First, Return, Crash, Act, who, replica_after, id_of}
+use Rattle.paxos_world.specs.Life.{Life, Took, new_life}
+use Rattle.jp_types.specs.Instances.{Batch}
+use Rattle.paxos_world.specs.World.{IsPart, CanInstall, executed_with, Replica, Sent, World, Deed, Take, Enter, Open, Promise, Prepared, Launch, Vote, Learn, Answer, Rejoin, Install, Execute, Restore, Say, Can, Allowed, after, life_after, Move, First, Return, Crash, Act, who, replica_after, id_of}
+use Rattle.kv_service.specs.Parts.{part_size}
 use Rattle.paxos_world.specs.Trace.{Trace, at, Runs, Does, IsChosen}
 use Rattle.paxos_world.proofs.Basics.{with_at-cases, lt_or_le}
 use Rattle.paxos_world.proofs.Replies.{same}

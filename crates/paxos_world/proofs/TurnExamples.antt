@@ -3,11 +3,14 @@ use Rattle.std.specs.Prelude.{◌≡◌, ℕ, ◌^◌, ◌-◌, true, false, Lis
 use Rattle.jp_types.specs.declared.message.Message.{Message}
 use Rattle.jp_types.specs.declared.message.SnapshotPart.{SnapshotPart}
 use Rattle.jp_types.specs.declared.mode.Mode.TheVariants.{ViewSs, EpochSs}
-use Rattle.paxos_world.specs.Stage.{Joiner, Slot, Outgoing, free_slots}
+use Rattle.paxos_world.specs.Stage.{Slot, Outgoing, free_slots}
+use Rattle.kv_service.specs.Parts.{Joiner}
 use Rattle.paxos_world.specs.Retransmitting.{arm_from, free_at, claim}
-use Rattle.paxos_world.specs.CatchingUp.{parts_of, joiner_for, takes_part, with_part, is_joined, joined_bytes, peer}
+use Rattle.paxos_world.specs.CatchingUp.{parts_of, joiner_for}
+use Rattle.kv_service.specs.Parts.{takes_part, with_part, is_joined, joined_bytes}
+use Rattle.jp_types.specs.Instances.{peer}
 use Rattle.jp_types.specs.Views.{next_led, next_not_led}
-use Rattle.paxos_world.specs.Turn.{return_mark}
+use Rattle.jp_types.specs.Marks.{return_mark}
 
 -- ---- Snapshots in parts
 

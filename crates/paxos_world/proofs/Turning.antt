@@ -11,22 +11,27 @@ use Rattle.std.specs.Option.{option_map}
 use Rattle.kv_service.specs.Service.{State, outcomes}
 use Rattle.kv_service.specs.StateReading.{state_in}
 use Rattle.paxos_world.specs.declared.step.Step.{Step}
-use Rattle.paxos_world.specs.Life.{Batch, LifeId, Lead, Leading, No, Preparing, Leads, Life, next_of}
+use Rattle.paxos_world.specs.Life.{LifeId, Lead, Leading, No, Preparing, Leads, Life, next_of}
+use Rattle.jp_types.specs.Instances.{Batch}
 use Rattle.paxos_world.specs.World.{Replica, World, Deed, Move, of_running, life_after, replica_after, sends as sends_in, after}
 use Rattle.paxos_world.specs.World as W
 use Rattle.paxos_world.specs.Setup.{Setup}
 use Rattle.paxos_world.specs.Trace.{end_of}
 use Rattle.paxos_world.proofs.Basics.{with_at-same}
 use Rattle.paxos_world.proofs.Sound.{act-is}
-use Rattle.paxos_world.specs.Stage.{Config, setup_of, Joiner, Stage, Item, Came, Closed, Tick, Suspect, Snapped, Decision, Decided, Installed, Act, Show, Send, Hand, Save, Outgoing, Slot, Turned}
+use Rattle.paxos_world.specs.Stage.{Config, setup_of, Stage, Item, Came, Closed, Tick, Suspect, Snapped, Decision, Decided, Installed, Act, Show, Send, Hand, Save, Outgoing, Slot, Turned}
+use Rattle.kv_service.specs.Parts.{Joiner}
 use Rattle.paxos_world.specs.Writing.{◌▹◌, when, when_some, for_each, for_range, with_stage, acts, does, shows, sends, says, saves, hands, others, sends_to_all, says_to_all}
 use Rattle.paxos_world.specs.Shown.{outcomes_with, shown_of_deed, shown_along, sends_along, shown_in}
-use Rattle.paxos_world.specs.Serving.{is_due, serves}
+use Rattle.paxos_world.specs.Serving.{serves}
+use Rattle.kv_service.specs.Dues.{is_due}
 use Rattle.paxos_world.specs.Retransmitting.{cursor_after, claim, arms_recovery, arms_prepare, arms_query, arms_propose, cancels_prepare, cancels_recovery, cancels_query, cancels_propose, cancels_proposes}
 use Rattle.paxos_world.specs.Logs.{is_known, first_undecided, report_from}
 use Rattle.paxos_world.specs.Leading.{works, leads, leads_own, is_view_ss, prepare_of, begin_from, begin_phase_1, drop_waiting, raise_to, raise_up_to, suspect}
 use Rattle.paxos_world.specs.Learning.{horizon_to, notes, learns, learn_check, votes_for, propose_of, launches}
-use Rattle.paxos_world.specs.CatchingUp.{peer, query_of, replied_batches, parts_of, is_joined, joined_bytes, takes_part, with_part, queries_peer, query_where_due, on_query, learns_each, on_batches, keeps_joiner, installs, installs_if, has_part, puts_part, on_part, on_snapshot}
+use Rattle.paxos_world.specs.CatchingUp.{query_of, replied_batches, parts_of, queries_peer, query_where_due, on_query, learns_each, on_batches, keeps_joiner, installs, installs_if, has_part, puts_part, on_part, on_snapshot}
+use Rattle.jp_types.specs.Instances.{peer}
+use Rattle.kv_service.specs.Parts.{is_joined, joined_bytes, takes_part, with_part}
 use Rattle.paxos_world.specs.Messages.{vector_of, promises, promises_if, on_prepare, on_prepare_ok, votes_on, votes_if, on_propose, on_accept, answers, on_recovery, on_recovery_answer, on_alive, on_kind, on_message}
 use Rattle.paxos_world.specs.Settling.{adoption_end, open_place, next_handing, rejoins, settles_rejoin, adopts, adopts_where, becomes_prepared, settles_leading, launches_waiting, hands_on, settles}
 use Rattle.paxos_world.specs.Turn.{quiet_limit, alive_of, counts_quiet, on_tick_working, on_item, untouched, turn, begun, moves_of, repeats, retransmit}

@@ -4,13 +4,15 @@ use Rattle.jp_types.specs.declared.message.Message.{Message}
 use Rattle.jp_types.specs.declared.mode.Phase.TheVariants.{Recovering, Working}
 use Rattle.jp_types.specs.declared.mode.Mode.TheVariants.{ViewSs}
 use Rattle.paxos_world.specs.Setup.{Setup, In}
-use Rattle.paxos_world.specs.Life.{Batch, Taken, Life, IsKnown, new_life}
+use Rattle.paxos_world.specs.Life.{Taken, Life, IsKnown, new_life}
+use Rattle.jp_types.specs.Instances.{Batch}
 use Rattle.paxos_world.specs.World.{Move, First, Return, Crash, Act, Take, Enter, Open, Promise, Prepared, Launch, Vote, Learn, Answer, Rejoin, Say, opening, By_votes, By_catch_up, HasAccepted, life_after}
 use Rattle.jp_types.specs.declared.message.PrepareOk.{PrepareOk}
 use Rattle.jp_types.specs.declared.message.RecoveryAnswer.{RecoveryAnswer}
 use Rattle.jp_types.specs.declared.message.Entry.{Entry}
 use Rattle.paxos_world.specs.Counting.{Held, counted_ok, counted_answer}
-use Rattle.paxos_world.specs.Adoption.{counted_report, voted_entry, IsReport, IsTold}
+use Rattle.paxos_world.specs.Adoption.{counted_report, IsReport, IsTold}
+use Rattle.jp_types.specs.Reports.{voted_entry}
 use Rattle.paxos_world.specs.Laws.{SomeRunAdopts}
 use Rattle.paxos_world.specs.Trace.{IsRun, end_of}
 use Rattle.paxos_world.proofs.Basics.{with_at-cases}

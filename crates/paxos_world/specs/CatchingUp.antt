@@ -8,17 +8,17 @@ use Rattle.kv_service.specs.Entries
 use Rattle.kv_service.specs.Service.{State}
 use Rattle.kv_service.specs.StateReading.{state_in}
 use Rattle.paxos_world.specs.declared.step.Step.{Step}
-use Rattle.paxos_world.specs.Life.{Batch}
-use Rattle.paxos_world.specs.World.{Deed, part_size}
-use Rattle.paxos_world.specs.Stage.{Snapshot, Joiner, Stage, Turned}
+use Rattle.jp_types.specs.Instances.{Batch}
+use Rattle.paxos_world.specs.World.{Deed}
+use Rattle.kv_service.specs.Parts.{part_size}
+use Rattle.paxos_world.specs.Stage.{Snapshot, Stage, Turned}
+use Rattle.kv_service.specs.Parts.{Joiner}
 use Rattle.paxos_world.specs.Writing.{◌▹◌, when, when_some, for_each, with_stage, shows, says}
 use Rattle.paxos_world.specs.Logs.{is_in_span, is_known, first_undecided}
 use Rattle.paxos_world.specs.Retransmitting.{arms_query, cancels_query}
 use Rattle.paxos_world.specs.Learning.{learns}
-
--- whom the next query goes to
-abbrev pub peer : ℕ → ℕ → ℕ → ℕ
-peer me n queries = (me + 1 + queries % (n - 1)) % n
+use Rattle.jp_types.specs.Instances.{reply_limit, known_from, peer}
+use Rattle.kv_service.specs.Parts.{part_count, parts_from, takes_part, with_part, is_joined, joined_bytes}
 
 -- the query for the batches from this instance on
 abbrev pub query_of : ℕ → Message
@@ -39,33 +39,9 @@ queries_peer t =
 abbrev pub query_where_due : Turned → Turned
 query_where_due t = when (nat_lt (first_undecided t.stage) t.stage.horizon) queries_peer t
 
--- how many batches a reply has at most
-abbrev pub reply_limit : ℕ
-reply_limit = 64
-
--- a known batch in front of those behind it
-abbrev pub known_then : Option Batch → List Batch → List Batch
-known_then None later = []
-known_then (Some batch) later = batch ∷ later
-
--- the known batches from i on up to the next instance that is not known, k at most
-abbrev pub known_from : ℕ → (ℕ → Option Batch) → ℕ → List Batch
-known_from zero known i = []
-known_from (suc k) known i = let later = known_from k known (suc i) in known_then (known i) later
-
 -- the known batches that answer a query from an instance on
 unfoldable pub replied_batches : Stage → ℕ → List Batch
 replied_batches s first = known_from reply_limit s.life.known first
-
--- the k parts of the bytes from the offset `at` on
-abbrev pub parts_from : ℕ → ℕ → ℕ → List ℕ → ℕ → List Message
-parts_from zero upto total bytes at = []
-parts_from (suc k) upto total bytes at =
-    Message.SnapshotPart (record { upto = upto; total = total; at = at; bytes = take part_size (drop at bytes) }) ∷ parts_from k upto total bytes (at + part_size)
-
--- how many parts bytes of this length have
-abbrev pub part_count : ℕ → ℕ
-part_count total = (total + (part_size - 1)) / part_size
 
 -- a snapshot's parts, in order
 abbrev pub parts_of : Snapshot → List Message
@@ -97,30 +73,6 @@ is_joining_above (Some j) upto = nat_lt upto j.upto
 abbrev pub joiner_for : Option Joiner → ℕ → ℕ → Joiner
 joiner_for None upto total = record { upto = upto; total = total; parts = [] }
 joiner_for (Some j) upto total = if nat_lt j.upto upto then record { upto = upto; total = total; parts = [] } else j
-
--- whether the part that is held at an offset, if there is one, has these bytes
-abbrev pub is_alike : Option (List ℕ) → List ℕ → Bool
-is_alike None bytes = true
-is_alike (Some held) bytes = bytes_eq held bytes
-
--- whether a joiner takes a part: its total is the joiner's, its offset and its length are those of a part, and no other bytes are held at that offset
-abbrev pub takes_part : Joiner → SnapshotPart → Bool
-takes_part j m =
-    (m.total == j.total)
-    && ((m.at % part_size == 0) && nat_lt m.at j.total && (length m.bytes == min part_size (j.total - m.at)))
-    && is_alike (Entries.get nat_cmp j.parts m.at) m.bytes
-
--- the joiner with a part that it takes
-abbrev pub with_part : Joiner → SnapshotPart → Joiner
-with_part j m = record j { parts = Entries.insert nat_cmp j.parts m.at m.bytes }
-
--- whether all parts are held
-abbrev pub is_joined : Joiner → Bool
-is_joined j = length j.parts == part_count j.total
-
--- the bytes of the parts, joined in order
-abbrev pub joined_bytes : Joiner → List ℕ
-joined_bytes j = flat_map (λ part. part.1) j.parts
 
 -- the stage's joiner is this one
 abbrev pub keeps_joiner : Option Joiner → Turned → Turned

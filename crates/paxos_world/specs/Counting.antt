@@ -10,14 +10,7 @@ use Rattle.jp_types.specs.declared.mode.Mode.{Mode}
 use Rattle.jp_types.specs.declared.mode.Mode.TheVariants.{ViewSs, EpochSs}
 use Rattle.paxos_world.specs.Setup.{Setup}
 use Rattle.paxos_world.specs.Life.{LifeId, Taken, Life}
-
--- a vector's entry for replica p
-abbrev pub entry : List ℕ → ℕ → ℕ
-entry vector p = slice_index vector p
-
--- the nine entries of a vector that is given as a function
-abbrev pub table : (ℕ → ℕ) → List ℕ
-table f = f 0 ∷ f 1 ∷ f 2 ∷ f 3 ∷ f 4 ∷ f 5 ∷ f 6 ∷ f 7 ∷ f 8 ∷ []
+use Rattle.jp_types.specs.Vectors.{entry, is_less_answer}
 
 -- whether there is a view and it is this one
 abbrev pub is_view : Option ℕ → ℕ → Bool
@@ -94,12 +87,6 @@ held_ok mark view p (t ∷ ts) = better_ok p (held_ok mark view p ts) t.from (ok
 abbrev pub answer_of : ℕ → ℕ → Taken → Option RecoveryAnswer
 answer_of mark p t = if t.from.replica == p then own_answer mark t.phase t.message else None
 
--- whether answer b is greater than a by epoch, then view, then presence of next
-abbrev pub is_less_answer : ℕ → RecoveryAnswer → RecoveryAnswer → Bool
-is_less_answer p a b =
-    nat_lt (entry a.vector p) (entry b.vector p)
-    || ((entry a.vector p == entry b.vector p) && (nat_lt a.view b.view || ((a.view == b.view) && (not (is_some a.next) && is_some b.next))))
-
 -- of the RecoveryAnswer held so far and a new one, the new one only where it is greater
 abbrev pub better_answer : ℕ → Option (Held RecoveryAnswer) → LifeId → Option RecoveryAnswer → Option (Held RecoveryAnswer)
 better_answer p held from None = held
@@ -140,10 +127,6 @@ is_promised c r l p = (p == r) || is_some (counted_ok c r l p)
 -- whether p's RecoveryAnswer is counted
 abbrev pub is_answered : Setup → ℕ → Life → ℕ → Bool
 is_answered c r l p = is_some (counted_answer c r l p)
-
--- replies, by replica, are crash-consistent: no member's vector has an entry for a member p above the epoch of p's reply
-abbrev pub IsCrashConsistent : (ℕ → Option (List ℕ)) → Type 0
-IsCrashConsistent vectors = (p q : ℕ) (own other : List ℕ) → vectors p ≡ Some own → vectors q ≡ Some other → entry other p ≤ entry own p
 
 -- the vector of the PrepareOk of p that a life of r counts, if it counts one
 abbrev pub ok_vectors : Setup → ℕ → Life → ℕ → Option (List ℕ)

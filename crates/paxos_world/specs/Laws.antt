@@ -7,8 +7,10 @@ use Rattle.jp_types.specs.declared.mode.Mode.TheVariants.{ViewSs, EpochSs}
 use Rattle.jp_types.specs.declared.message.Message.{Message}
 use Rattle.jp_types.specs.Views.{leader}
 use Rattle.paxos_world.specs.Setup.{Setup, In}
-use Rattle.paxos_world.specs.Life.{Batch, Life}
-use Rattle.paxos_world.specs.Counting.{Held, entry_in, counted_ok, counted_answer, IsCrashConsistent, ok_vectors, answer_vectors}
+use Rattle.paxos_world.specs.Life.{Life}
+use Rattle.jp_types.specs.Instances.{Batch}
+use Rattle.paxos_world.specs.Counting.{Held, entry_in, counted_ok, counted_answer, ok_vectors, answer_vectors}
+use Rattle.jp_types.specs.Vectors.{IsCrashConsistent}
 use Rattle.paxos_world.specs.Adoption.{adopted_by, counted_report}
 use Rattle.paxos_world.specs.World.{Prepared, Rejoin, Launch, Act, Move, opening, Sent}
 use Rattle.paxos_world.specs.Trace.{Trace, at, Runs, Does, IsChosen, IsChosenIn, IsRun, end_of}

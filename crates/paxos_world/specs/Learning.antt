@@ -2,7 +2,7 @@
 use Rattle.std.specs.Prelude.{ℕ, not, Option, Some, max}
 use Rattle.jp_types.specs.declared.message.Message.{Message}
 use Rattle.paxos_world.specs.declared.step.Step.{Step}
-use Rattle.paxos_world.specs.Life.{Batch}
+use Rattle.jp_types.specs.Instances.{Batch}
 use Rattle.paxos_world.specs.World.{Deed}
 use Rattle.paxos_world.specs.Stage.{Turned}
 use Rattle.paxos_world.specs.Writing.{◌▹◌, when, when_some, with_stage, shows, sends_to_all}

@@ -8,10 +8,7 @@ use Rattle.jp_types.specs.declared.mode.Mode.{Mode}
 use Rattle.jp_types.specs.declared.mode.Mode.TheVariants.{ViewSs, EpochSs}
 use Rattle.kv_service.specs.Service.{State, start}
 use Rattle.paxos_world.specs.Setup.{In}
-
--- what is agreed on in an instance: a list of requests
-abbrev pub Batch : Type 0
-Batch = List Request
+use Rattle.jp_types.specs.Instances.{Batch}
 
 -- a life: the replica, and which of its starts began it, from 1
 pub record LifeId : Type 0 where
@@ -113,13 +110,3 @@ new_life number mark phase view =
       states = start ∷ [];
       installed = [];
     }
-
--- the mark, and the stable number, of a first start
-abbrev pub first_mark : Mode → ℕ
-first_mark ViewSs = 0
-first_mark EpochSs = 1
-
--- the view in which a later life with this mark begins
-abbrev pub view_at_return : Mode → ℕ → ℕ
-view_at_return ViewSs mark = mark
-view_at_return EpochSs mark = 0

@@ -2,7 +2,7 @@
 use Rattle.std.specs.Prelude.{ℕ, zero, suc, max, Bool, false, ◌&&◌, ◌||◌, List, [], ◌∷◌, Option, Some, None, if◌then◌else◌, nat_le, ◌==◌}
 use Rattle.std.specs.Option.{option_or}
 use Rattle.jp_types.specs.Views.{majority, count_below}
-use Rattle.paxos_world.specs.Life.{Batch}
+use Rattle.jp_types.specs.Instances.{Batch}
 use Rattle.paxos_world.specs.World.{Ballot}
 
 -- whether the vote is one in this view on this instance

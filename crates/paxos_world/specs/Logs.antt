@@ -3,13 +3,12 @@ use Rattle.std.specs.Prelude.{ℕ, zero, suc, ◌+◌, min, max, Bool, ◌&&◌,
 use Rattle.std.specs.List.{list_any}
 use Rattle.jp_types.specs.declared.message.Entry.{Entry}
 use Rattle.jp_types.specs.Views.{number_limit, majority, count_below}
-use Rattle.paxos_world.specs.Life.{Batch, Life}
-use Rattle.paxos_world.specs.Adoption.{decided_entry, voted_entry}
+use Rattle.paxos_world.specs.Life.{Life}
+use Rattle.jp_types.specs.Instances.{Batch}
+use Rattle.jp_types.specs.Reports.{decided_entry, voted_entry}
 use Rattle.paxos_world.specs.Stage.{Note, Stage}
-
--- how many instances a log spans
-abbrev pub span : ℕ
-span = 1024
+use Rattle.jp_types.specs.Instances.{span, first_unknown_from}
+use Rattle.jp_types.specs.Reports.{entry_by}
 
 -- one more than the last instance in span: the span begins at the base, and ends at the limit of numbers at the latest
 abbrev pub span_end : Stage → ℕ
@@ -22,11 +21,6 @@ is_in_span s i = nat_le s.base i && nat_lt i (span_end s)
 -- whether an instance is known: below the base each is
 abbrev pub is_known : Stage → ℕ → Bool
 is_known s i = nat_lt i s.base || is_some (s.life.known i)
-
--- the first of the k instances from i on that is not known, or i + k where each is known
-abbrev pub first_unknown_from : ℕ → (ℕ → Option Batch) → ℕ → ℕ
-first_unknown_from zero known i = i
-first_unknown_from (suc k) known i = let later = first_unknown_from k known (suc i) in if is_some (known i) then later else i
 
 -- the least instance that is not known. All that is known lies below the span's end
 unfoldable pub first_undecided : Stage → ℕ
@@ -66,12 +60,6 @@ full_batch n notes = if nat_le (majority n) (count_below n (has_accepted notes))
 abbrev pub tallied : Stage → ℕ → Option Batch
 tallied s i = if is_known s i then None else full_batch s.config.n (tally s i)
 
--- what a report says of an instance: the known batch, or else the vote
-abbrev pub entry_by : ℕ → Option Batch → Option (ℕ × Batch) → List Entry
-entry_by i (Some batch) vote = decided_entry i batch ∷ []
-entry_by i None (Some vote) = voted_entry i vote.0 vote.1 ∷ []
-entry_by i None None = []
-
 -- the entries of k instances from i on
 abbrev pub entries_from : ℕ → Life → ℕ → List Entry
 entries_from zero l i = []
@@ -80,8 +68,3 @@ entries_from (suc k) l i = entry_by i (l.known i) (l.votes i) ++ entries_from k 
 -- the report from `first`: each instance from that and the base on that is known, or else voted
 unfoldable pub report_from : Stage → ℕ → List Entry
 report_from s first = filter (λ e. nat_le first e.instance) (entries_from span s.life s.base)
-
--- one more than the highest instance in a report, and 0 for an empty one
-abbrev pub report_end : List Entry → ℕ
-report_end [] = 0
-report_end (e ∷ es) = max (suc e.instance) (report_end es)

@@ -8,7 +8,8 @@ use Rattle.jp_types.specs.declared.message.RecoveryAnswer.{RecoveryAnswer}
 use Rattle.jp_types.specs.declared.message.Alive.{Alive}
 use Rattle.paxos_world.specs.declared.step.Step.{Step}
 use Rattle.paxos_world.specs.Life.{LifeId, preparing_in, next_of}
-use Rattle.paxos_world.specs.Counting.{is_view, is_recovering, table, entry_in}
+use Rattle.paxos_world.specs.Counting.{is_view, is_recovering, entry_in}
+use Rattle.jp_types.specs.Vectors.{table}
 use Rattle.paxos_world.specs.World.{Deed}
 use Rattle.paxos_world.specs.Stage.{Stage, Turned}
 use Rattle.paxos_world.specs.Writing.{◌▹◌, when, when_some, with_stage, does, shows, sends, sends_to_all}

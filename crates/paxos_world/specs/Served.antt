@@ -4,7 +4,8 @@ use Rattle.kv_service.specs.declared.outcome.Kind.{Kind}
 use Rattle.kv_service.specs.declared.outcome.Outcome.{Outcome}
 use Rattle.kv_service.specs.Service.{State, serve, start, execute, outcomes}
 use Rattle.paxos_world.specs.Setup.{Setup, In}
-use Rattle.paxos_world.specs.Life.{Batch, Life}
+use Rattle.paxos_world.specs.Life.{Life}
+use Rattle.jp_types.specs.Instances.{Batch}
 use Rattle.jp_types.specs.declared.mode.Phase.TheVariants.{Recovering}
 use Rattle.paxos_world.specs.World.{World, Deed, Take, Enter, Open, Promise, Prepared, Launch, Vote, Learn, Answer, Rejoin, Install, Execute, Restore, Say, Act, Move, opening}
 use Rattle.paxos_world.specs.Trace.{Trace, Runs, Does, IsChosen, IsChosenIn, IsRun, end_of}

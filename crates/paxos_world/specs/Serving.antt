@@ -1,20 +1,12 @@
 -- What the Service stage does with a decision.
-use Rattle.std.specs.Prelude.{ℕ, suc, ◌%◌, Bool, false, ◌&&◌, nat_lt, ◌==◌}
+use Rattle.std.specs.Prelude.{suc, ◌%◌, Bool, false, ◌&&◌, nat_lt, ◌==◌}
 use Rattle.kv_service.specs.Service.{State, outcomes}
 use Rattle.kv_service.specs.StateBytes.{state_bytes}
 use Rattle.paxos_world.specs.declared.step.Step.{Step}
 use Rattle.paxos_world.specs.World.{Deed}
 use Rattle.paxos_world.specs.Stage.{Item, Snapped, Decision, Decided, Installed, Turned}
 use Rattle.paxos_world.specs.Writing.{when, shows}
-use Rattle.jp_types.specs.Views.{number_limit}
-
--- after how many executed instances a snapshot is taken
-abbrev pub snapshot_step : ℕ
-snapshot_step = 256
-
--- whether a decision on this instance is executed: it is the executed number, within the limit. Others are passed over
-abbrev pub is_due : State → ℕ → Bool
-is_due s i = (i == s.executed) && nat_lt i number_limit
+use Rattle.kv_service.specs.Dues.{snapshot_step, is_due}
 
 -- whether a decision makes the executed number one at which a snapshot is taken
 abbrev pub makes_snapshot : State → Decision → Bool

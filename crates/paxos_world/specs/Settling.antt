@@ -6,13 +6,17 @@ use Rattle.jp_types.specs.declared.message.PrepareOk.{PrepareOk}
 use Rattle.kv_service.specs.StateReading.{state_in}
 use Rattle.paxos_world.specs.declared.step.Step.{Step}
 use Rattle.jp_types.specs.Views.{majority, leader, count_below, number_if}
-use Rattle.paxos_world.specs.Life.{Batch, Lead, Leading, No, Preparing, Leads, Life}
+use Rattle.paxos_world.specs.Life.{Lead, Leading, No, Preparing, Leads, Life}
+use Rattle.jp_types.specs.Instances.{Batch}
 use Rattle.paxos_world.specs.Counting.{Held, is_recovering, counted_ok, counted_answer, is_promised, is_answered}
-use Rattle.paxos_world.specs.Adoption.{counted_report, decided_below}
+use Rattle.paxos_world.specs.Adoption.{counted_report}
+use Rattle.jp_types.specs.Reports.{decided_below}
 use Rattle.paxos_world.specs.World.{Deed}
 use Rattle.paxos_world.specs.Stage.{setup_of, Snapshot, Stage, Decision, Decided, Installed, Turned}
 use Rattle.paxos_world.specs.Writing.{◌▹◌, when, when_some, for_range, with_stage, shows, saves, hands}
-use Rattle.paxos_world.specs.Logs.{span, span_end, is_known, first_undecided, report_end}
+use Rattle.paxos_world.specs.Logs.{span_end, is_known, first_undecided}
+use Rattle.jp_types.specs.Instances.{span}
+use Rattle.jp_types.specs.Reports.{report_end}
 use Rattle.paxos_world.specs.Retransmitting.{cancels_prepare, cancels_recovery}
 use Rattle.paxos_world.specs.Leading.{is_view_ss}
 use Rattle.paxos_world.specs.Learning.{learns, launches}

@@ -4,7 +4,8 @@ use Rattle.kv_service.specs.declared.outcome.Outcome.{Outcome}
 use Rattle.kv_service.specs.Service.{State, outcomes}
 use Rattle.paxos_world.specs.declared.step.Step.{Step}
 use Rattle.paxos_world.specs.Setup.{Setup}
-use Rattle.paxos_world.specs.Life.{Batch, Life}
+use Rattle.paxos_world.specs.Life.{Life}
+use Rattle.jp_types.specs.Instances.{Batch}
 use Rattle.paxos_world.specs.World.{World, Sent, Deed, Take, Enter, Open, Promise, Prepared, Launch, Vote, Learn, Answer, Rejoin, Install, Execute, Restore, Say, Move, First, Return, Crash, Act, of_running, sends, after}
 use Rattle.paxos_world.specs.Stage as stage
 

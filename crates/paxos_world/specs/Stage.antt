@@ -6,8 +6,10 @@ use Rattle.kv_service.specs.Service.{State}
 use Rattle.kv_service.specs.StateBytes.{state_bytes}
 use Rattle.paxos_world.specs.declared.step.Step.{Step}
 use Rattle.paxos_world.specs.Setup.{Setup}
-use Rattle.paxos_world.specs.Life.{Batch, LifeId, Life}
+use Rattle.paxos_world.specs.Life.{LifeId, Life}
+use Rattle.jp_types.specs.Instances.{Batch}
 use Rattle.paxos_world.specs.World.{Deed}
+use Rattle.kv_service.specs.Parts.{Joiner}
 
 -- the constants of one replica: how many there are, which one it is, the recovery mode, and the window of parallel instances
 pub record Config : Type 0 where
@@ -55,12 +57,6 @@ pub record Snapshot : Type 0 where
   pub place : ℕ
   pub bytes : List ℕ
   pub installed : Bool
-
--- a snapshot of which parts came: its place, the length of its bytes, and the parts held, each with its offset in the bytes, ascending
-pub record Joiner : Type 0 where
-  pub upto : ℕ
-  pub total : ℕ
-  pub parts : List (ℕ × List ℕ)
 
 -- the state of a Protocol stage
 pub record Stage : Type 0 where

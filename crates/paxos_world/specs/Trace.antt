@@ -1,7 +1,8 @@
 -- Whole runs.
 use Rattle.std.specs.Prelude.{◌≡◌, ℕ, zero, suc, ◌≤◌, ◌<◌, Bool, true, List, [], ◌∷◌, Option, Some, None}
 use Rattle.paxos_world.specs.Setup.{Setup, IsQuorum, In}
-use Rattle.paxos_world.specs.Life.{Batch, Life}
+use Rattle.paxos_world.specs.Life.{Life}
+use Rattle.jp_types.specs.Instances.{Batch}
 use Rattle.paxos_world.specs.World.{World, Move, Allowed, after, opening}
 
 -- the condition of what happens at a moment: nothing, or a step that is allowed

@@ -6,7 +6,9 @@ use Rattle.jp_types.specs.declared.mode.Phase.TheVariants.{Recovering, Working}
 use Rattle.jp_types.specs.declared.mode.Mode.{Mode}
 use Rattle.jp_types.specs.declared.mode.Mode.TheVariants.{ViewSs, EpochSs}
 use Rattle.paxos_world.specs.declared.step.Step.{Step}
-use Rattle.paxos_world.specs.Life.{Batch, Life, new_life, first_mark, view_at_return}
+use Rattle.paxos_world.specs.Life.{Life, new_life}
+use Rattle.jp_types.specs.Instances.{Batch}
+use Rattle.jp_types.specs.Marks.{first_mark, view_at_return}
 use Rattle.paxos_world.specs.World.{Deed, Move, First, Return}
 use Rattle.paxos_world.specs.Stage.{Config, Stage, Slot, new_stage, Item, Came, Closed, Tick, Suspect, Snapped, Act, Show, Save, Turned, Outgoing}
 use Rattle.paxos_world.specs.Writing.{◌▹◌, when, for_each, with_stage, says, says_to_all}
@@ -17,6 +19,7 @@ use Rattle.paxos_world.specs.Leading.{works, leads_own, is_leading, begin_phase_
 use Rattle.paxos_world.specs.CatchingUp.{query_where_due, on_snapshot}
 use Rattle.paxos_world.specs.Messages.{on_message}
 use Rattle.paxos_world.specs.Settling.{settles}
+use Rattle.jp_types.specs.Marks.{return_mark}
 
 -- after how many ticks without a message of its leader a stage suspects it
 abbrev pub quiet_limit : ℕ
@@ -78,11 +81,6 @@ stage_after s (x ∷ xs) = stage_after (turn s x.0 x.1).stage xs
 abbrev pub acts_over : Stage → List (Item × ℕ) → List Act
 acts_over s [] = []
 acts_over s (x ∷ xs) = let t = turn s x.0 x.1 in t.acts ++ acts_over t.stage xs
-
--- the mark of a later start of a replica that finds this stable number, if it is within the limit
-abbrev pub return_mark : Mode → ℕ → ℕ → ℕ → Option ℕ
-return_mark ViewSs n me stable = next_not_led n me stable
-return_mark EpochSs n me stable = within_limit (suc stable)
 
 -- how a life begins: the world's step, and what the stage does in its start
 pub record Opened : Type 0 where

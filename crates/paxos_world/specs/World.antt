@@ -11,9 +11,14 @@ use Rattle.jp_types.specs.declared.mode.Mode.TheVariants.{ViewSs, EpochSs}
 use Rattle.kv_service.specs.Service.{State, execute}
 use Rattle.jp_types.specs.Views.{leader}
 use Rattle.paxos_world.specs.Setup.{Setup, IsQuorum, with_at, In}
-use Rattle.paxos_world.specs.Life.{Batch, LifeId, Lead, Leading, No, Preparing, Leads, Life, IsKnown, IsFirstUnknown, Took, preparing_in, next_of, new_life, first_mark, view_at_return}
-use Rattle.paxos_world.specs.Counting.{Held, entry_in, table, counted_ok, counted_answer, is_promised, is_answered}
-use Rattle.paxos_world.specs.Adoption.{decided_entry, IsReport, counted_report, adopted_by}
+use Rattle.paxos_world.specs.Life.{LifeId, Lead, Leading, No, Preparing, Leads, Life, IsKnown, IsFirstUnknown, Took, preparing_in, next_of, new_life}
+use Rattle.jp_types.specs.Instances.{Batch}
+use Rattle.jp_types.specs.Marks.{first_mark, view_at_return}
+use Rattle.paxos_world.specs.Counting.{Held, entry_in, counted_ok, counted_answer, is_promised, is_answered}
+use Rattle.jp_types.specs.Vectors.{table}
+use Rattle.paxos_world.specs.Adoption.{IsReport, counted_report, adopted_by}
+use Rattle.jp_types.specs.Reports.{decided_entry}
+use Rattle.kv_service.specs.Parts.{part_size}
 
 -- a replica: how often it started, its stable number, and the life that runs, if any
 pub record Replica : Type 0 where
@@ -196,10 +201,6 @@ pub record CanRejoin (c : Setup) (r : ℕ) (l : Life) (view : ℕ) : Type 0 wher
   pub leader_next : leader_answer.body.next ≡ Some next
   -- and each instance below that is known
   pub known : (i : ℕ) → i < next → IsKnown l i
-
--- how many bytes a part of a snapshot has, but for the last
-abbrev pub part_size : ℕ
-part_size = 65536
 
 -- a SnapshotPart that is a part of these bytes: it has their length as `total`, and those from `at` on, which is a multiple of the part size
 pub record IsPart (bytes : List ℕ) (upto total at : ℕ) (part : List ℕ) : Type 0 where

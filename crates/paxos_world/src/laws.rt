@@ -3,7 +3,8 @@
 ghost use Rattle.std.specs.Prelude.{ℕ};
 ghost use Rattle.paxos_world.specs.Setup.{Setup};
 ghost use Rattle.paxos_world.specs.Life.{Life};
-ghost use Rattle.paxos_world.specs.Counting.{IsCrashConsistent, ok_vectors, answer_vectors, CoversOks, CoversAnswers};
+ghost use Rattle.paxos_world.specs.Counting.{ok_vectors, answer_vectors, CoversOks, CoversAnswers};
+ghost use Rattle.jp_types.specs.Vectors.{IsCrashConsistent};
 ghost use Rattle.paxos_world.specs.Trace.{Trace};
 ghost use Rattle.paxos_world.specs.Laws.{RejoinsAreSeen, CountedComeBack, ReturnedComeBack, OnePrepared, OneBatch, ChosenAreAdopted, OneChosen, KnownAreChosen, SomeRunChooses, SomeRunAdopts, CountedAreConsistent, SentToOthers, LeadersLead};
 ghost use Rattle.paxos_world.specs.Served.{AllStand, ListedRunsStand, ListIsChosen, ExecutesOnce, AllExecuteListed, RecoveringAreSilent, FirstOnce};

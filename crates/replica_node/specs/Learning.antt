@@ -3,7 +3,7 @@ use Rattle.std.specs.Prelude.{ℕ, ◌+◌, ◌-◌, ◌^◌, max, min, [], ◌�
 use Rattle.jp_types.specs.declared.message.Message.{Message}
 use Rattle.jp_types.specs.Views.{majority}
 use Rattle.paxos_world.specs.declared.step.Step.{Step}
-use Rattle.paxos_world.specs.Life.{Batch}
+use Rattle.jp_types.specs.Instances.{Batch}
 use Rattle.replica_node.specs.declared.item.Act.{Act}
 use Rattle.replica_node.specs.declared.life.Life.{Life}
 use Rattle.replica_node.specs.declared.life.Leading.{Leading}

@@ -1,5 +1,4 @@
 pub mod Answers
-pub mod Keyed
 pub mod Lane
 pub mod Lanes
 pub mod Leads

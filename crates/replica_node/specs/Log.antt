@@ -3,8 +3,8 @@ use Rattle.std.specs.Prelude.{ℕ, ◌+◌, min, Bool, false, ◌&&◌, ◌||◌
 use Rattle.std.specs.FinMap as map
 use Rattle.jp_types.specs.Views.{number_limit, count_below}
 use Rattle.jp_types.specs.ReplicaSets.{is_member}
-use Rattle.paxos_world.specs.Life.{Batch}
-use Rattle.paxos_world.specs.Logs.{span}
+use Rattle.jp_types.specs.Instances.{Batch}
+use Rattle.jp_types.specs.Instances.{span}
 use Rattle.replica_node.specs.declared.tally.Note.{Note}
 use Rattle.replica_node.specs.declared.tally.Tally.{Tally}
 use Rattle.replica_node.specs.declared.log.Log.{Log}

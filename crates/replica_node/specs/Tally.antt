@@ -1,7 +1,7 @@
 -- Which replicas accepted an instance, and with which batch.
 use Rattle.std.specs.Prelude.{ℕ, Bool, List, Option, Some, None, if◌then◌else◌, ◌==◌, nat_lt}
 use Rattle.jp_types.specs.ReplicaSets.{no_members, with_member}
-use Rattle.paxos_world.specs.Life.{Batch}
+use Rattle.jp_types.specs.Instances.{Batch}
 use Rattle.replica_node.specs.declared.tally.Note.{Note}
 use Rattle.replica_node.specs.declared.tally.Tally.{Tally}
 

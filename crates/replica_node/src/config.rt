@@ -2,7 +2,7 @@
 
 ghost use Rattle.std.specs.Prelude.{◌≡◌, ◌≤◌, ◌<◌, ◌==◌, ◌+◌, ◌-◌, ◌%◌};
 ghost use Rattle.jp_types.specs.Views.{majority as majority_of, leader, next_led};
-ghost use Rattle.paxos_world.specs.CatchingUp.{peer};
+ghost use Rattle.jp_types.specs.Instances.{peer};
 
 use jp_types::message::{ReplicaId, View};
 use jp_types::mode::Mode;

@@ -13,7 +13,6 @@ pub mod learning;
 pub mod life;
 pub mod log;
 pub mod messages;
-pub mod numbered;
 pub mod protocol;
 pub mod queue;
 pub mod replica;

@@ -3,16 +3,16 @@
 ghost use Rattle.std.specs.Prelude.{◌≡◌, ◌==◌, []};
 ghost use Rattle.jp_types.specs.Views.{leader};
 ghost use Rattle.paxos_world.specs.Leading.{is_working};
-ghost use Rattle.paxos_world.specs.Life.{first_mark};
+ghost use Rattle.jp_types.specs.Marks.{first_mark};
 ghost use Rattle.replica_node.specs.Leads.{is_leading, next_of};
 
 use crate::config::Config;
 use crate::log::Log;
-use crate::numbered::Numbered;
 use crate::queue::Queue;
 use jp_types::batch::Batch;
 use jp_types::message::{Instance, Mark, PrepareOk, ReplicaId, Vector, View};
 use jp_types::mode::{Mode, Phase};
+use jp_types::numbered::Numbered;
 use jp_types::octets::Octets;
 use std::alloc::Global;
 

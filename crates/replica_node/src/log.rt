@@ -4,12 +4,12 @@ ghost use Rattle.std.specs.Prelude.{◌≡◌, OnOk, IfOk};
 ghost use Rattle.std.specs.FinMap as map;
 ghost use Rattle.replica_node.specs.Log.{span_end, is_in_span, is_known, after_note, has_majority, tallied, after_learn, after_vote};
 
-use crate::numbered::Numbered;
 use crate::tally::{Note, Tally, noted};
 use jp_types::batch::Batch;
 use jp_types::listed::Listed;
 use jp_types::memory::{Duplicate, NoMemory};
 use jp_types::message::{Entry, Instance, Report, View};
+use jp_types::numbered::Numbered;
 use jp_types::views::NUMBER_LIMIT;
 use std::alloc::Global;
 
@@ -75,7 +75,7 @@ impl Log {
     }
 
     /// Adds a note, where the instance is in span and not known.
-    #[tactic(auto, using(crate::proofs::KeyedLemmas::insert_removed))]
+    #[tactic(auto, using(jp_types::proofs::KeyedLemmas::insert_removed))]
     pub fn note(&mut self, instance: Instance, note: Note) -> Result<(), NoMemory>
         ensures { OnOk result (self.new ≡ after_note self.old instance note) }
     {

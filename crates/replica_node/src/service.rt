@@ -1,7 +1,7 @@
 //! The Service stage: it executes decided batches.
 
 ghost use Rattle.std.specs.Prelude.{◌≡◌};
-ghost use Rattle.paxos_world.specs.Serving.{is_due};
+ghost use Rattle.kv_service.specs.Dues.{is_due};
 
 use crate::item::{Act, Decision, Item};
 use crate::state_bytes::state_bytes;

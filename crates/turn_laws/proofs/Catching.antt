@@ -10,14 +10,20 @@ use Rattle.kv_service.specs.StateBytes.{state_bytes}
 use Rattle.kv_service.specs.StateReading.{state_in}
 use Rattle.paxos_world.specs.declared.step.Step.{Step}
 use Rattle.paxos_world.specs.Setup.{In}
-use Rattle.paxos_world.specs.Life.{Batch, Life, IsFirstUnknown, Took}
-use Rattle.paxos_world.specs.World.{Install, By_catch_up, CanInstall, MaySay, part_size, stable_after}
-use Rattle.paxos_world.specs.Stage.{setup_of, Snapshot, Joiner, Stage, Turned}
+use Rattle.paxos_world.specs.Life.{Life, IsFirstUnknown, Took}
+use Rattle.jp_types.specs.Instances.{Batch}
+use Rattle.paxos_world.specs.World.{Install, By_catch_up, CanInstall, MaySay, stable_after}
+use Rattle.kv_service.specs.Parts.{part_size}
+use Rattle.paxos_world.specs.Stage.{setup_of, Snapshot, Stage, Turned}
+use Rattle.kv_service.specs.Parts.{Joiner}
 use Rattle.paxos_world.specs.Writing.{◌▹◌, when, when_some, for_each, with_stage, does, says}
-use Rattle.paxos_world.specs.Logs.{span, is_in_span, is_known, first_undecided}
+use Rattle.paxos_world.specs.Logs.{is_in_span, is_known, first_undecided}
+use Rattle.jp_types.specs.Instances.{span}
 use Rattle.paxos_world.specs.Retransmitting.{arms_query, cancels_query}
 use Rattle.paxos_world.specs.Learning.{learns}
-use Rattle.paxos_world.specs.CatchingUp.{peer, query_of, queries_peer, query_where_due, known_then, known_from, replied_batches, reply_limit, parts_from, part_count, parts_of, on_query, learns_each, on_batches, is_joining_above, joiner_for, is_alike, takes_part, with_part, is_joined, joined_bytes, keeps_joiner, installs, installs_if, has_part, puts_part, on_part, place_of, on_snapshot}
+use Rattle.paxos_world.specs.CatchingUp.{query_of, queries_peer, query_where_due, replied_batches, parts_of, on_query, learns_each, on_batches, is_joining_above, joiner_for, keeps_joiner, installs, installs_if, has_part, puts_part, on_part, place_of, on_snapshot}
+use Rattle.jp_types.specs.Instances.{peer, known_then, known_from, reply_limit}
+use Rattle.kv_service.specs.Parts.{parts_from, part_count, is_alike, takes_part, with_part, is_joined, joined_bytes}
 use Rattle.paxos_world.proofs.Basics.{In-append}
 use Rattle.paxos_world.proofs.Replies.{same}
 use Rattle.turn_laws.specs.Limits.{AreBytes}

@@ -10,12 +10,15 @@ use Rattle.kv_service.specs.StateBytes.{state_bytes}
 use Rattle.kv_service.specs.StateReading.{state_in}
 use Rattle.paxos_world.specs.declared.step.Step.{Step}
 use Rattle.paxos_world.specs.Setup.{Setup, In}
-use Rattle.paxos_world.specs.Life.{Batch, LifeId, Taken, Life, Preparing, IsKnown, Took}
-use Rattle.paxos_world.specs.World.{World, Sent, Ballot, id_of, Enter, HasLaunched, HasProposal, HasAccepted, part_size, stable_after, to_others}
+use Rattle.paxos_world.specs.Life.{LifeId, Taken, Life, Preparing, IsKnown, Took}
+use Rattle.jp_types.specs.Instances.{Batch}
+use Rattle.paxos_world.specs.World.{World, Sent, Ballot, id_of, Enter, HasLaunched, HasProposal, HasAccepted, stable_after, to_others}
+use Rattle.kv_service.specs.Parts.{part_size}
 use Rattle.paxos_world.specs.Trace.{IsRun, end_of}
-use Rattle.paxos_world.specs.Stage.{Config, setup_of, Outgoing, Armed, Note, Snapshot, Joiner, Stage, Act, Show, Send, Hand, Save, Turned}
+use Rattle.paxos_world.specs.Stage.{Config, setup_of, Outgoing, Armed, Note, Snapshot, Stage, Act, Show, Send, Hand, Save, Turned}
+use Rattle.kv_service.specs.Parts.{Joiner}
 use Rattle.jp_types.specs.Views.{number_limit}
-use Rattle.paxos_world.specs.Logs.{span}
+use Rattle.jp_types.specs.Instances.{span}
 use Rattle.paxos_world.specs.Retransmitting.{live_at}
 use Rattle.paxos_world.specs.CatchingUp.{place_of}
 use Rattle.paxos_world.specs.Turn.{moves_of}

@@ -5,12 +5,14 @@ use Rattle.jp_types.specs.declared.mode.Phase.{Phase}
 use Rattle.jp_types.specs.declared.mode.Phase.TheVariants.{Recovering}
 use Rattle.jp_types.specs.declared.mode.Mode.TheVariants.{ViewSs}
 use Rattle.paxos_world.specs.Setup.{Setup, In, with_at}
-use Rattle.paxos_world.specs.Life.{Batch, LifeId, Taken, Life, Took}
+use Rattle.paxos_world.specs.Life.{LifeId, Taken, Life, Took}
+use Rattle.jp_types.specs.Instances.{Batch}
 use Rattle.paxos_world.specs.World.{Replica, World, Sent, Ballot, Deed, Take, Enter, Open, Promise, Prepared, Launch, Vote, Learn, Answer, Rejoin, Install, Execute, Restore, Say, Move, Can, Allowed, MaySay, HasProposal, HasAccepted, id_of, life_after, replica_after, stable_after, ballots, ballots_of, of_running, sends, sends_of, to_others, after}
 use Rattle.paxos_world.specs.World as W
 use Rattle.paxos_world.specs.Trace.{IsRun, end_of}
-use Rattle.paxos_world.specs.Stage.{setup_of, Outgoing, Armed, Note, Snapshot, Joiner, Stage, Act, Show, Send, Hand, Save, Turned}
-use Rattle.paxos_world.specs.Logs.{span}
+use Rattle.paxos_world.specs.Stage.{setup_of, Outgoing, Armed, Note, Snapshot, Stage, Act, Show, Send, Hand, Save, Turned}
+use Rattle.kv_service.specs.Parts.{Joiner}
+use Rattle.jp_types.specs.Instances.{span}
 use Rattle.paxos_world.specs.Turn.{moves_of}
 use Rattle.paxos_world.specs.Writing.{when, when_some, for_each, for_range, does}
 use Rattle.paxos_world.proofs.Basics.{with_at-cases, with_at-same, In-append, In-left, In-right}

@@ -5,8 +5,8 @@ use Rattle.std.specs.BTreeMap.{insert_entry}
 use Rattle.std.specs.Ordering.{match_ordering}
 use Rattle.std.specs.List.{flat_map}
 use Rattle.paxos_world.specs.Setup.{In}
-use Rattle.paxos_world.specs.World.{part_size}
-use Rattle.paxos_world.specs.CatchingUp.{part_count}
+use Rattle.kv_service.specs.Parts.{part_size}
+use Rattle.kv_service.specs.Parts.{part_count}
 use Rattle.turn_laws.proofs.Fitting.{Rising}
 
 abbrev Part : Type 0

@@ -7,11 +7,13 @@ use Rattle.jp_types.specs.declared.mode.Phase.TheVariants.{Recovering, Working}
 use Rattle.paxos_world.specs.declared.step.Step.{Step}
 use Rattle.jp_types.specs.Views.{leader, majority, count_below}
 use Rattle.paxos_world.specs.Setup.{Setup, IsQuorum, In, with_at}
-use Rattle.paxos_world.specs.Life.{Batch, Launched, Lead, Leading, Leads, Life, IsKnown}
+use Rattle.paxos_world.specs.Life.{Launched, Lead, Leading, Leads, Life, IsKnown}
+use Rattle.jp_types.specs.Instances.{Batch}
 use Rattle.paxos_world.specs.World.{World, Sent, Deed, Learn, Vote, Launch, HasLaunched, HasProposal, HasAccepted, MayLearn, By_votes, CanVote, CanLaunch, lead_after, id_of, sends_of, to_others}
 use Rattle.paxos_world.specs.Stage.{setup_of, Outgoing, Note, Stage, Turned}
 use Rattle.paxos_world.specs.Writing.{shows, sends_to_all}
-use Rattle.paxos_world.specs.Logs.{span, is_in_span, is_known, with_note, notes_on, highest_view, tally, has_accepted, batch_in, full_batch, tallied}
+use Rattle.paxos_world.specs.Logs.{is_in_span, is_known, with_note, notes_on, highest_view, tally, has_accepted, batch_in, full_batch, tallied}
+use Rattle.jp_types.specs.Instances.{span}
 use Rattle.paxos_world.specs.Retransmitting.{live_at, arms_propose}
 use Rattle.paxos_world.specs.Learning.{horizon_to, notes, learns, learn_check, votes_for, propose_of, launches}
 use Rattle.paxos_world.proofs.Basics.{with_at-cases}

@@ -13,12 +13,14 @@ use Rattle.jp_types.specs.declared.mode.Mode.TheVariants.{ViewSs, EpochSs}
 use Rattle.paxos_world.specs.declared.step.Step.{Step}
 use Rattle.jp_types.specs.Views.{leader}
 use Rattle.paxos_world.specs.Setup.{In}
-use Rattle.paxos_world.specs.Life.{Batch, LifeId, Taken, Life, Took, preparing_in, next_of}
+use Rattle.paxos_world.specs.Life.{LifeId, Taken, Life, Took, preparing_in, next_of}
+use Rattle.jp_types.specs.Instances.{Batch}
 use Rattle.paxos_world.specs.Counting.{is_recovering}
 use Rattle.paxos_world.specs.World.{Sent, Take, Promise, Vote, Answer, Enter, Open, CanPromise, CanVote, CanAnswer, id_of, sends_of, to_others, stable_after}
 use Rattle.paxos_world.specs.Stage.{Config, setup_of, Note, Stage, Turned}
 use Rattle.paxos_world.specs.Writing.{◌▹◌, when, when_some, with_stage, does, shows, saves, says, says_to_all, others}
-use Rattle.paxos_world.specs.Logs.{span, is_in_span, report_from, first_undecided}
+use Rattle.paxos_world.specs.Logs.{is_in_span, report_from, first_undecided}
+use Rattle.jp_types.specs.Instances.{span}
 use Rattle.paxos_world.specs.Retransmitting.{cancels_prepare, cancels_proposes}
 use Rattle.paxos_world.specs.Leading.{works, is_view_ss, leads, raise_to, raise_up_to, begin_phase_1, prepare_of, drop_waiting}
 use Rattle.paxos_world.specs.Learning.{horizon_to, notes, learn_check, votes_for, accept_of}

@@ -8,13 +8,15 @@ use Rattle.jp_types.specs.declared.mode.Mode.TheVariants.{ViewSs, EpochSs}
 use Rattle.paxos_world.specs.declared.step.Step.{Step}
 use Rattle.jp_types.specs.Views.{leader, number_limit}
 use Rattle.paxos_world.specs.Setup.{Setup}
-use Rattle.paxos_world.specs.Life.{Life, new_life, first_mark, view_at_return}
+use Rattle.paxos_world.specs.Life.{Life, new_life}
+use Rattle.jp_types.specs.Marks.{first_mark, view_at_return}
 use Rattle.paxos_world.specs.World.{Replica, World, Move, First, Return, IsNextMark, CanFirst, CanReturn, Allowed, who, after, replica_after}
 use Rattle.paxos_world.specs.Stage.{Config, setup_of, Stage, free_slots, new_stage}
 use Rattle.paxos_world.specs.Writing.{when, says_to_all}
 use Rattle.paxos_world.specs.Leading.{leads_own, begin_phase_1}
 use Rattle.paxos_world.specs.Retransmitting.{arms_recovery}
-use Rattle.paxos_world.specs.Turn.{return_mark, Opened, begun, first_start, recovery_of, later_start, opening}
+use Rattle.paxos_world.specs.Turn.{Opened, begun, first_start, recovery_of, later_start, opening}
+use Rattle.jp_types.specs.Marks.{return_mark}
 use Rattle.paxos_world.proofs.Basics.{lt_or_le, with_at-same}
 use Rattle.paxos_world.proofs.Replies.{same}
 use Rattle.turn_laws.proofs.Fitting.{executions, shown_by, Fits, Good, Frame, Goes}

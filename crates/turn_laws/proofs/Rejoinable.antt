@@ -14,7 +14,8 @@ use Rattle.paxos_world.specs.World.{World, CanRejoin, Execute, Restore}
 use Rattle.paxos_world.specs.Stage.{setup_of, Stage, Decision, Decided, Installed, Turned}
 use Rattle.paxos_world.specs.Writing.{shows}
 use Rattle.paxos_world.specs.Logs.{first_undecided}
-use Rattle.paxos_world.specs.Serving.{is_due, serves}
+use Rattle.paxos_world.specs.Serving.{serves}
+use Rattle.kv_service.specs.Dues.{is_due}
 use Rattle.paxos_world.specs.Settling.{answer_from, view_of_answer, highest_answered, is_next_known, is_leader_ready, is_answered_enough, rejoin_view}
 use Rattle.paxos_world.specs.Turn.{untouched}
 use Rattle.paxos_world.proofs.Basics.{lt_or_le}

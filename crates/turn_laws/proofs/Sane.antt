@@ -13,10 +13,15 @@ use Rattle.kv_service.specs.StateBytes.{state_bytes}
 use Rattle.kv_service.specs.StateReading.{read_state, state_in}
 use Rattle.jp_types.specs.Views.{leader, number_limit}
 use Rattle.paxos_world.specs.Setup.{Setup, In, with_at}
-use Rattle.paxos_world.specs.Life.{Batch, LifeId, Launched, Leading, No, Preparing, Leads, Life, Took, new_life, first_mark, view_at_return}
+use Rattle.paxos_world.specs.Life.{LifeId, Launched, Leading, No, Preparing, Leads, Life, Took, new_life}
+use Rattle.jp_types.specs.Instances.{Batch}
+use Rattle.jp_types.specs.Marks.{first_mark, view_at_return}
 use Rattle.paxos_world.specs.Counting.{Held, counted_ok}
-use Rattle.paxos_world.specs.Adoption.{decided_entry, voted_entry, IsTold, report_in, counted_report, decided_in, decided_below, vote_in, higher, highest_below, adopted_by}
-use Rattle.paxos_world.specs.World.{Replica, World, Sent, Deed, Take, Enter, Open, Promise, Prepared, Launch, Vote, Learn, Answer, Rejoin, Install, Execute, Restore, Say, Move, First, Return, Crash, Act, Can, MaySay, MayLearn, By_votes, By_report, By_catch_up, HasProposal, part_size, who, id_of, lead_of, lead_after, executed_with, life_after, replica_after, of_running, sends, sends_of, to_others, after, opening}
+use Rattle.paxos_world.specs.Adoption.{IsTold, report_in, counted_report, adopted_by}
+use Rattle.jp_types.specs.Reports.{decided_below, highest_below}
+use Rattle.jp_types.specs.Reports.{decided_entry, voted_entry, decided_in, vote_in, higher}
+use Rattle.paxos_world.specs.World.{Replica, World, Sent, Deed, Take, Enter, Open, Promise, Prepared, Launch, Vote, Learn, Answer, Rejoin, Install, Execute, Restore, Say, Move, First, Return, Crash, Act, Can, MaySay, MayLearn, By_votes, By_report, By_catch_up, HasProposal, who, id_of, lead_of, lead_after, executed_with, life_after, replica_after, of_running, sends, sends_of, to_others, after, opening}
+use Rattle.kv_service.specs.Parts.{part_size}
 use Rattle.paxos_world.specs.Trace.{end_of}
 use Rattle.paxos_world.specs.Turn.{moves_of}
 use Rattle.paxos_world.specs.Stage.{Config, setup_of}

@@ -3,11 +3,15 @@ use Rattle.std.proofs.Common.{◌≡◌, ℕ, zero, suc, ◌+◌, ◌≤◌, ◌
 use Rattle.std.proofs.lemmas.Bool.Decides.{leb_tells}
 use Rattle.jp_types.specs.declared.message.Entry.{Entry}
 use Rattle.paxos_world.specs.Setup.{Setup, In}
-use Rattle.paxos_world.specs.Life.{Batch, Life, IsKnown, IsFirstUnknown}
-use Rattle.paxos_world.specs.Adoption.{decided_entry, voted_entry, IsTold, IsAscending, IsReport}
+use Rattle.paxos_world.specs.Life.{Life, IsKnown, IsFirstUnknown}
+use Rattle.jp_types.specs.Instances.{Batch}
+use Rattle.paxos_world.specs.Adoption.{IsTold, IsAscending, IsReport}
+use Rattle.jp_types.specs.Reports.{decided_entry, voted_entry}
 use Rattle.paxos_world.specs.World.{World}
 use Rattle.paxos_world.specs.Stage.{Stage}
-use Rattle.paxos_world.specs.Logs.{span, span_end, is_in_span, is_known, first_unknown_from, first_undecided, entry_by, entries_from, report_from, report_end}
+use Rattle.paxos_world.specs.Logs.{span_end, is_in_span, is_known, first_undecided, entries_from, report_from}
+use Rattle.jp_types.specs.Instances.{span, first_unknown_from}
+use Rattle.jp_types.specs.Reports.{entry_by, report_end}
 use Rattle.paxos_world.specs.Settling.{own_end}
 use Rattle.paxos_world.proofs.Basics.{lt_or_le, In-append, In-left, In-right}
 use Rattle.turn_laws.proofs.Fitting.{Fits}

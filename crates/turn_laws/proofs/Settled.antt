@@ -3,7 +3,8 @@ use Rattle.std.proofs.Common.{◌≡◌, ℕ, zero, suc, max, true, ◌&&◌, Li
 use Rattle.jp_types.specs.declared.mode.Phase.{Phase}
 use Rattle.jp_types.specs.declared.mode.Phase.TheVariants.{Recovering, Working}
 use Rattle.jp_types.specs.Views.{leader, number_if}
-use Rattle.paxos_world.specs.Life.{Batch, Leading, No}
+use Rattle.paxos_world.specs.Life.{Leading, No}
+use Rattle.jp_types.specs.Instances.{Batch}
 use Rattle.paxos_world.specs.Counting.{is_recovering}
 use Rattle.paxos_world.specs.World.{World}
 use Rattle.paxos_world.specs.Stage.{Config, setup_of, Stage, Item, Turned}

@@ -12,13 +12,17 @@ use Rattle.jp_types.specs.declared.mode.Mode.TheVariants.{ViewSs, EpochSs}
 use Rattle.paxos_world.specs.declared.step.Step.{Step}
 use Rattle.jp_types.specs.Views.{leader, majority, count_below, number_if}
 use Rattle.paxos_world.specs.Setup.{Setup, In}
-use Rattle.paxos_world.specs.Life.{Batch, Launched, Lead, Leading, No, Preparing, Leads, Life, IsFirstUnknown}
+use Rattle.paxos_world.specs.Life.{Launched, Lead, Leading, No, Preparing, Leads, Life, IsFirstUnknown}
+use Rattle.jp_types.specs.Instances.{Batch}
 use Rattle.paxos_world.specs.Counting.{Held, is_recovering, counted_ok, is_promised, is_answered}
-use Rattle.paxos_world.specs.Adoption.{decided_entry, decided_in, decided_below, counted_report}
+use Rattle.paxos_world.specs.Adoption.{counted_report}
+use Rattle.jp_types.specs.Reports.{decided_below}
+use Rattle.jp_types.specs.Reports.{decided_entry, decided_in}
 use Rattle.paxos_world.specs.World.{Sent, Rejoin, Prepared, CanRejoin, CanPrepared, CanLaunch, By_report, lead_of, lead_after, stable_after, Enter}
 use Rattle.paxos_world.specs.Stage.{Config, setup_of, Outgoing, Stage, Turned}
 use Rattle.paxos_world.specs.Writing.{◌▹◌, when, when_some, for_range, with_stage, does, shows, saves}
-use Rattle.paxos_world.specs.Logs.{span, span_end, is_known, first_undecided}
+use Rattle.paxos_world.specs.Logs.{span_end, is_known, first_undecided}
+use Rattle.jp_types.specs.Instances.{span}
 use Rattle.paxos_world.specs.Retransmitting.{live_at, cancels_prepare, cancels_recovery}
 use Rattle.paxos_world.specs.Leading.{is_view_ss}
 use Rattle.paxos_world.specs.Learning.{learns, launches}

@@ -9,7 +9,8 @@ use Rattle.kv_service.specs.StateReading.{state_in}
 use Rattle.paxos_world.specs.declared.step.Step.{Step}
 use Rattle.jp_types.specs.Views.{leader, number_limit}
 use Rattle.paxos_world.specs.Setup.{Setup, In}
-use Rattle.paxos_world.specs.Life.{Batch, LifeId, Life}
+use Rattle.paxos_world.specs.Life.{LifeId, Life}
+use Rattle.jp_types.specs.Instances.{Batch}
 use Rattle.paxos_world.specs.World.{World, Sent, Take, Execute, Restore, CanExecute, CanRestore, MaySay}
 use Rattle.paxos_world.specs.Trace.{IsRun, end_of}
 use Rattle.paxos_world.specs.Stage.{Config, setup_of, Outgoing, Snapshot, Stage, Item, Came, Closed, Tick, Suspect, Snapped, Decision, Decided, Installed, Show, Hand, Turned}
@@ -18,7 +19,8 @@ use Rattle.paxos_world.specs.Leading.{works, leads, leads_own, is_leading, suspe
 use Rattle.paxos_world.specs.Retransmitting.{claim, cursor_after}
 use Rattle.paxos_world.specs.Messages.{on_kind, on_message}
 use Rattle.paxos_world.specs.Settling.{settles_rejoin, settles_prepared, settles_waiting, Handing, install_above, handing_of, next_handing, hands_on}
-use Rattle.paxos_world.specs.Serving.{is_due, serves}
+use Rattle.paxos_world.specs.Serving.{serves}
+use Rattle.kv_service.specs.Dues.{is_due}
 use Rattle.paxos_world.specs.Turn.{quiet_limit, waiting_limit, alive_of, counts_quiet, on_tick_working, on_tick, on_batch, on_item, untouched, turn, moves_of, repeats, retransmit}
 use Rattle.paxos_world.proofs.Replies.{same}
 use Rattle.turn_laws.proofs.Fitting.{MayRepeat, SnapshotTrue, Fits, Good, ballot_of, shown_by, Frame, who_of, Goes}

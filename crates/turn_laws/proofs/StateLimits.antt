@@ -24,7 +24,7 @@ use Rattle.kv_service.specs.declared.outcome.Kind.TheVariants.{First, Repeated, 
 use Rattle.kv_service.specs.Service.{State, last_of, kind_of, take_by, take_request, take_requests, execute}
 use Rattle.kv_service.proofs.Places.{ascending_insert}
 use Rattle.kv_service.proofs.Requests.{executed-take_requests}
-use Rattle.paxos_world.specs.Life.{Batch}
+use Rattle.jp_types.specs.Instances.{Batch}
 use Rattle.turn_laws.specs.Limits.{IsKey, IsValue, IsCommand, IsRequest, IsBatch}
 
 -- each entry has a key and a value of these kinds

@@ -7,7 +7,8 @@ use Rattle.jp_types.specs.declared.mode.Mode.{Mode}
 use Rattle.jp_types.specs.declared.mode.Mode.TheVariants.{ViewSs, EpochSs}
 use Rattle.paxos_world.specs.declared.step.Step.{Step}
 use Rattle.paxos_world.specs.Setup.{Setup, In}
-use Rattle.paxos_world.specs.Life.{Batch, LifeId, Life}
+use Rattle.paxos_world.specs.Life.{LifeId, Life}
+use Rattle.jp_types.specs.Instances.{Batch}
 use Rattle.paxos_world.specs.World.{World, Sent, Deed, Take, Enter, Open, Promise, Prepared, Launch, Vote, Learn, Answer, Rejoin, Install, Execute, Restore, Say, Can, MaySay, id_of, life_after, stable_after, sends_of, to_others}
 use Rattle.paxos_world.specs.Stage.{Config, setup_of, Stage, Act, Show, Send, Turned}
 use Rattle.paxos_world.specs.Writing.{◌▹◌, when, when_some, for_each, for_range, with_stage, acts, does, shows, says, others_below, others, sends_to_all, says_to_all}

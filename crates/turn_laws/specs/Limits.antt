@@ -7,7 +7,7 @@ use Rattle.kv_service.specs.Service.{State, execute}
 use Rattle.kv_service.specs.StateBytes.{state_bytes}
 use Rattle.kv_service.specs.StateReading.{state_in}
 use Rattle.paxos_world.specs.Setup.{In}
-use Rattle.paxos_world.specs.Life.{Batch}
+use Rattle.jp_types.specs.Instances.{Batch}
 use Rattle.jp_types.specs.Views.{number_limit}
 
 -- each number is a byte

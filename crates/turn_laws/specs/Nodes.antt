@@ -5,7 +5,8 @@ use Rattle.kv_service.specs.Service.{State}
 use Rattle.kv_service.specs.StateBytes.{state_bytes}
 use Rattle.jp_types.specs.Views.{number_limit}
 use Rattle.paxos_world.specs.Setup.{Setup, In}
-use Rattle.paxos_world.specs.Life.{Batch, LifeId, Life}
+use Rattle.paxos_world.specs.Life.{LifeId, Life}
+use Rattle.jp_types.specs.Instances.{Batch}
 use Rattle.paxos_world.specs.World.{World, Sent, Deed, Launch, Install, Execute, CanRejoin, Move, Allowed, who, after}
 use Rattle.paxos_world.specs.World as world
 use Rattle.paxos_world.specs.Trace.{IsRun, end_of}
