@@ -6,3 +6,6 @@ pub mod Requests
 pub mod Searches
 mod StateExamples
 mod StoreExamples
+pub mod ReadingLoops
+pub mod StateBack
+pub mod StateForth

@@ -1,21 +1,29 @@
 //! The state of the service: the store, how many batches were executed, and each client's last reply.
 
-ghost use Rattle.std.specs.Prelude.{◌≡◌, ◌<◌, true, ◌^◌, [], slice_get, IfErr, IfOk, OnErr, OnOk, vec_len, vec_capacity};
+ghost use Rattle.std.specs.Prelude.{◌≡◌, ◌<◌, true, ◌^◌, ◌⊎◌, [], slice_get, Ok, Err, IfErr, IfOk, IfSome, OnErr, OnOk, vec_len, vec_capacity};
 ghost use Rattle.std.specs.Option.{option_copied};
 ghost use Rattle.std.specs.Ordering.{is_le, nat_cmp};
 ghost use Rattle.kv_service.specs.Above.{first_above, kept_of, pair_cmp};
 ghost use Rattle.kv_service.specs.Ascending.{IsAscending, IsFoundAt, IsMissingAt};
+ghost use Rattle.kv_service.specs.Limits.{IsWithinLimits};
 ghost use Rattle.kv_service.specs.Prefix.{IsAfterPrefix};
 ghost use Rattle.kv_service.specs.Entries;
-ghost use Rattle.kv_service.specs.Service.{execute, kept, kind_of, last_of, outcomes, start, take_request, take_requests};
+ghost use Rattle.kv_service.specs.Service.{State as ServiceState, execute, kept, kind_of, last_of, outcomes, start, take_request, take_requests};
+ghost use Rattle.kv_service.specs.StateBytes.{state_bytes};
+ghost use Rattle.kv_service.specs.StateReading.{read_state};
+ghost use Rattle.kv_service.specs.StateTelling.{fault_of};
 ghost use Rattle.kv_service.specs.Store.{apply, is_value};
 
+use crate::fault::StateFault;
 use crate::outcome::{Kind, Outcome, Outcomes};
+use crate::reading::read_parts;
 use crate::store::Store;
+use crate::writing::{push_clients, push_pairs};
 use jp_types::batch::Batch;
 use jp_types::command::{Reply, Request};
 use jp_types::memory::{Duplicate, NoMemory};
 use jp_types::message::Instance;
+use jp_types::octets::Octets;
 use std::alloc::Global;
 use std::marker::Model;
 
@@ -281,6 +289,36 @@ impl State {
     {
         self.clients.after(last)
     }
+
+    /// The one spelling of the state, from which another replica takes it over. It takes at most twice its length of
+    /// memory.
+    #[tactic(auto, unfolding(crate::specs::StateBytes::state_bytes))]
+    pub fn to_bytes(&self) -> Result<Octets, NoMemory>
+        ensures { IfOk result (λ made. made ≡ state_bytes self.now) }
+    {
+        let mut out = Vec::new(self.clients.allocator());
+        out.extend_from_slice(&self.executed.to_be_bytes())?;
+        push_pairs(&mut out, self.store.pairs())?;
+        push_clients(&mut out, &self.clients.last)?;
+        Ok(Octets::from_vec(out))
+    }
+
+    /// The state that the bytes spell, all of the bytes, or the first fault that is met as they are read from the front.
+    pub fn from_bytes(alloc: Global, bytes: &[u8]) -> Result<State, StateFault>
+        ensures ok { IfOk result (λ state. read_state bytes.now ≡ Ok state) }
+        ensures fault { IfErr result (λ told. IfSome (fault_of told) (λ fault. read_state bytes.now ≡ Err fault)) }
+        ensures only { IfOk result (λ state. IsWithinLimits state × (bytes.now ≡ state_bytes state)) }
+        ensures each { (s : ServiceState) → IsWithinLimits s → bytes.now ≡ state_bytes s → (result ≡ Ok s) ⊎ (result ≡ Err StateFault.NoMemory) }
+    {
+        let parts = read_parts(alloc, bytes)?;
+        Ok(State {
+            store: Store::from_pairs(parts.pairs),
+            executed: parts.executed,
+            clients: Clients {
+                last: parts.clients,
+            },
+        })
+    }
 }
 
 #[cfg(test)]
@@ -374,6 +412,27 @@ mod tests {
         for (last, next) in lines {
             let found = state.pair_after(last).map(|pair| (pair.0, pair.1));
             assert_eq!(rt; found, next);
+        }
+        Ok(())
+    }
+
+    // A state whose only request was a put by client 7: 1 batch, 1 key with its value, 1 client with its number and reply.
+    const PUT_ONCE: [u8; 39] =
+        *b"\0\0\0\0\0\0\0\x01\0\0\0\x01\0\x01a\0\x01b\0\0\0\x01\0\0\0\0\0\0\0\x07\0\0\0\0\0\0\0\x01\x01";
+
+    #[test]
+    fn bytes_both_ways(rt: HostRuntime) -> Result<(), Fail> {
+        let mut put_once = State::new(rt.alloc());
+        put_once.execute(&batch(rt.alloc(), &[(7, 1, Some(b"b"))])?)?;
+        let (served, _outcomes) = served(rt.alloc())?;
+        assert_eq!(rt; put_once.to_bytes()?.bytes(), PUT_ONCE.as_slice());
+        for state in [State::new(rt.alloc()), put_once, served] {
+            let bytes = state.to_bytes()?;
+            let Ok(read) = State::from_bytes(rt.alloc(), bytes.bytes()) else {
+                return Err("a state's bytes are read".into());
+            };
+            assert_eq!(rt; read.executed(), state.executed());
+            assert_eq!(rt; read.to_bytes()?.bytes(), bytes.bytes());
         }
         Ok(())
     }

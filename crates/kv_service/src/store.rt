@@ -49,6 +49,14 @@ impl Store {
         }
     }
 
+    /// The store of these pairs.
+    pub(crate) fn from_pairs(pairs: Vec<(Octets, Octets)>) -> Store
+        requires { IsAscending bytes_cmp pairs.items }
+        ensures { result ≡ pairs.items }
+    {
+        Store { pairs }
+    }
+
     /// The keys and their values.
     pub fn pairs(&self) -> &[(Octets, Octets)]
         ensures all { result.now ≡ self.now }
