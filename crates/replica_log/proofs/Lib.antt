@@ -1,0 +1,4 @@
+pub mod Scanning
+pub mod Keeping
+pub mod Replacing
+pub mod Reporting
