@@ -1,0 +1,3 @@
+pub mod FirstReports
+pub mod Launches
+pub mod Searching

@@ -1,0 +1,5 @@
+pub mod Ascending
+pub mod Counting
+pub mod Proposing
+pub mod Adoption
+pub mod Window
