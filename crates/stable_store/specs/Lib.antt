@@ -1,0 +1,4 @@
+pub mod Disks
+pub mod Slots
+pub mod Failing
+pub mod Files
