@@ -1,0 +1,13 @@
+pub mod Alike
+pub mod Lists
+pub mod NoteLemmas
+pub mod LogLemmas
+pub mod AcceptLemmas
+pub mod ReplyLemmas
+pub mod KeptReplies
+pub mod RejoinLemmas
+pub mod KeptPromises
+pub mod PrepareLemmas
+pub mod KeptLemmas
+pub mod StartLemmas
+pub mod LaunchLemmas

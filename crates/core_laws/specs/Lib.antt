@@ -1,0 +1,9 @@
+pub mod Keeping
+pub mod Holding
+pub mod LogLaws
+pub mod AcceptLaws
+pub mod RejoinLaws
+pub mod PrepareLaws
+pub mod KeptLaws
+pub mod StartLaws
+pub mod LaunchLaws
