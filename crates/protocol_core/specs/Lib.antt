@@ -1,0 +1,12 @@
+pub mod Others
+pub mod Turned
+pub mod Sending
+pub mod Leading
+pub mod Voting
+pub mod Answering
+pub mod Launching
+pub mod CatchingUp
+pub mod Settling
+pub mod Messages
+pub mod Turning
+pub mod Starting
