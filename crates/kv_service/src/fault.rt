@@ -4,7 +4,7 @@ ghost use Rattle.std.specs.Prelude.{◌≡◌};
 ghost use Rattle.kv_service.specs.declared.fault.StateFault.TheVariants.{NoMemory as Unread};
 
 use jp_types::memory::NoMemory;
-use std::alloc::AllocFailed;
+use std::alloc::{AllocError, AllocFailed};
 
 /// Why no state was read: the first fault of the bytes, read from the front, or want of memory. Each place is counted
 /// from the first byte.
@@ -28,6 +28,14 @@ impl From<NoMemory> for StateFault {
     ghost from_gives = { λ _ e. e ≡ Unread };
 
     fn from(_want: NoMemory) -> StateFault {
+        StateFault::NoMemory
+    }
+}
+
+impl From<AllocError> for StateFault {
+    ghost from_gives = { λ _ e. e ≡ Unread };
+
+    fn from(_error: AllocError) -> StateFault {
         StateFault::NoMemory
     }
 }

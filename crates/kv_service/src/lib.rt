@@ -2,6 +2,7 @@
 #![tactic(auto)]
 
 pub mod fault;
+mod lengths;
 pub mod outcome;
 mod reading;
 pub mod state;

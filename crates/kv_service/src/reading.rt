@@ -1,6 +1,6 @@
 //! The parts of a state, read from bytes from the front.
 
-ghost use Rattle.std.specs.Prelude.{◌≡◌, ◌≤◌, ◌<◌, ◌*◌, ◌+◌, IfOk, None, length, fold};
+ghost use Rattle.std.specs.Prelude.{◌≡◌, ◌≤◌, ◌<◌, ◌*◌, ◌/◌, ◌+◌, IfOk, None, length, min, fold};
 ghost use Rattle.std.specs.Option.{option_copied};
 ghost use Rattle.std.specs.Ordering.{nat_cmp};
 ghost use Rattle.kv_service.specs.StateReading.{bytes, number, number_within, count_within, key, value, reply, reply_of_kind, follows, pairs, clients, state, read_state};
@@ -25,6 +25,12 @@ const KEY: u64 = 256;
 
 /// The greatest length of a value.
 const VALUE: u64 = 4096;
+
+/// The least bytes of a key with its value: two lengths and one byte.
+const LEAST_PAIR: usize = 5;
+
+/// The least bytes of a client with its last number and the reply to it: two numbers and the reply's kind.
+const LEAST_CLIENT: usize = 17;
 
 // How far the bytes were read.
 #[derive(Drop)]
@@ -170,11 +176,20 @@ impl<'a> Cursor<'a> {
         Ok((client, (number, self.reply(alloc)?)))
     }
 
+    // For how many entries a list is made: as many as are told, but no more than there can be in the bytes that are left,
+    // where each entry takes at least `size` of them.
+    fn room(&self, count: u64, size: usize) -> usize
+        requires { 1 ≤ size }
+        ensures { result ≡ min (length self.now.rest / size) count }
+    {
+        (self.rest.len() / size).min(count as usize)
+    }
+
     // So many keys with their values.
     fn pairs(&mut self, alloc: Global, count: u64) -> Result<Vec<(Octets, Octets)>, StateFault>
         ensures { Tells (λ read. (read.items, self.new)) result (pairs count None self.old) }
     {
-        let mut pairs = Vec::new(alloc);
+        let mut pairs = Vec::with_capacity(alloc, self.room(count, LEAST_PAIR))?;
         let mut before: Option<&[u8]> = None;
         for _ in 0..count {
             let (key, value) = self.pair(before)?;
@@ -192,7 +207,7 @@ impl<'a> Cursor<'a> {
     fn clients(&mut self, alloc: Global, count: u64) -> Result<Vec<(u64, (u64, Reply))>, StateFault>
         ensures { Tells (λ read. (read.items, self.new)) result (clients count None self.old) }
     {
-        let mut clients = Vec::new(alloc);
+        let mut clients = Vec::with_capacity(alloc, self.room(count, LEAST_CLIENT))?;
         let mut before = None;
         for _ in 0..count {
             let last = self.client(alloc, before)?;
@@ -279,75 +294,92 @@ mod tests {
     // No keys, or no clients.
     const NONE: &[u8] = b"\0\0\0\0";
 
-    fn joined(alloc: Global, executed: u64, rest: [&[u8]; 2]) -> Result<Vec<u8>, NoMemory> {
+    // The fault of the bytes of an executed number and of what follows it.
+    fn fault_of(
+        alloc: Global,
+        executed: u64,
+        rest: [&[u8]; 2],
+    ) -> Result<Option<StateFault>, NoMemory> {
         let mut bytes = Vec::from_slice(alloc, &executed.to_be_bytes())?;
         for part in rest {
             bytes.extend_from_slice(part)?;
         }
-        Ok(bytes)
+        Ok(State::from_bytes(alloc, &bytes).err())
     }
 
     #[test]
-    fn the_first_fault_is_told(rt: HostRuntime) -> Result<(), Fail> {
-        let one_key = b"\0\0\0\x01\0\x01a\0\x01b".as_slice();
+    fn the_first_fault_up_to_the_keys_is_told(rt: HostRuntime) -> Result<(), Fail> {
         let lines = [
-            (NUMBERS + 1, [b"".as_slice(), b""], StateFault::BadField(0)),
-            (0, [b"\0\0\0", b""], StateFault::Truncated(8)),
-            (0, [b"\0\0\x40\x01", b""], StateFault::TooLong(8)),
-            (0, [b"\0\0\0\x01\0\0", b""], StateFault::BadField(12)),
-            (0, [b"\0\0\0\x01\0\x02a", b""], StateFault::Truncated(14)),
+            (NUMBERS + 1, b"".as_slice(), StateFault::BadField(0)),
+            (0, b"\0\0\0", StateFault::Truncated(8)),
+            (0, b"\0\0\x40\x01", StateFault::TooLong(8)),
+            (0, b"\0\0\0\x01\0\0", StateFault::BadField(12)),
+            (0, b"\0\0\0\x01\0\x02a", StateFault::Truncated(14)),
+            (0, b"\0\0\0\x01\0\x01a\x10\x01", StateFault::TooLong(15)),
             (
                 0,
-                [b"\0\0\0\x01\0\x01a\x10\x01", b""],
-                StateFault::TooLong(15),
-            ),
-            (
-                0,
-                [b"\0\0\0\x02\0\x01b\0\0\0\x01b", b""],
+                b"\0\0\0\x02\0\x01b\0\0\0\x01b",
                 StateFault::Unordered(17),
             ),
-            (0, [NONE, b"\0\0\x04\x01"], StateFault::TooLong(12)),
+        ];
+        for (executed, keys, fault) in lines {
+            assert_eq!(rt; fault_of(rt.alloc(), executed, [keys, b""])?, Some(fault));
+        }
+        Ok(())
+    }
+
+    #[test]
+    fn the_first_fault_of_the_clients_is_told(rt: HostRuntime) -> Result<(), Fail> {
+        let lines = [
+            (b"\0\0\x04\x01".as_slice(), StateFault::TooLong(12)),
+            (b"\0\0\0\x01\0\0\0\0\0\0\x04\0", StateFault::BadField(16)),
             (
-                0,
-                [NONE, b"\0\0\0\x01\0\0\0\0\0\0\x04\0"],
-                StateFault::BadField(16),
-            ),
-            (
-                0,
-                [NONE, b"\0\0\0\x01\0\0\0\0\0\0\0\x07\0\0\0\0\0\0\0\0"],
+                b"\0\0\0\x01\0\0\0\0\0\0\0\x07\0\0\0\0\0\0\0\0",
                 StateFault::BadField(24),
             ),
             (
-                0,
-                [NONE, b"\0\0\0\x01\0\0\0\0\0\0\0\x07\0\0\0\0\0\0\0\x01\x05"],
+                b"\0\0\0\x01\0\0\0\0\0\0\0\x07\0\0\0\0\0\0\0\x01\x05",
                 StateFault::BadField(32),
             ),
             (
-                0,
-                [
-                    NONE,
-                    b"\0\0\0\x02\0\0\0\0\0\0\0\x07\0\0\0\0\0\0\0\x01\x04\0\0\0\0\0\0\0\x07",
-                ],
+                b"\0\0\0\x02\0\0\0\0\0\0\0\x07\0\0\0\0\0\0\0\x01\x04\0\0\0\0\0\0\0\x07",
                 StateFault::Unordered(33),
             ),
+        ];
+        for (clients, fault) in lines {
+            assert_eq!(rt; fault_of(rt.alloc(), 0, [NONE, clients])?, Some(fault));
+        }
+        Ok(())
+    }
+
+    #[test]
+    fn the_first_fault_at_the_end_is_told(rt: HostRuntime) -> Result<(), Fail> {
+        let one_key = b"\0\0\0\x01\0\x01a\0\x01b".as_slice();
+        let lines = [
             (
-                1,
-                [one_key, b"\0\0\0\x01\0\0\0\0\0\0\0\x07\0\0\0\0\0\0\0\x01"],
+                b"\0\0\0\x01\0\0\0\0\0\0\0\x07\0\0\0\0\0\0\0\x01".as_slice(),
                 StateFault::Truncated(38),
             ),
             (
-                1,
-                [
-                    one_key,
-                    b"\0\0\0\x01\0\0\0\0\0\0\0\x07\0\0\0\0\0\0\0\x01\x01\0",
-                ],
+                b"\0\0\0\x01\0\0\0\0\0\0\0\x07\0\0\0\0\0\0\0\x01\x01\0",
                 StateFault::Trailing(39),
             ),
         ];
-        for (executed, rest, fault) in lines {
-            let bytes = joined(rt.alloc(), executed, rest)?;
-            assert_eq!(rt; State::from_bytes(rt.alloc(), &bytes).err(), Some(fault));
+        for (clients, fault) in lines {
+            assert_eq!(rt; fault_of(rt.alloc(), 1, [one_key, clients])?, Some(fault));
         }
+        Ok(())
+    }
+
+    #[test]
+    fn a_list_has_room_for_its_entries_alone(rt: HostRuntime) -> Result<(), Fail> {
+        let bytes =
+            b"\0\0\0\0\0\0\0\x01\0\0\0\x01\0\x01a\0\0\0\0\0\x01\0\0\0\0\0\0\0\x07\0\0\0\0\0\0\0\x01\x03";
+        let Ok(parts) = read_parts(rt.alloc(), bytes) else {
+            return Err("a state's bytes are read".into());
+        };
+        assert_eq!(rt; parts.pairs.capacity(), 1);
+        assert_eq!(rt; parts.clients.capacity(), 1);
         Ok(())
     }
 }

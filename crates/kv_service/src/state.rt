@@ -1,6 +1,6 @@
 //! The state of the service: the store, how many batches were executed, and each client's last reply.
 
-ghost use Rattle.std.specs.Prelude.{◌≡◌, ◌<◌, true, ◌^◌, ◌⊎◌, [], slice_get, Ok, Err, IfErr, IfOk, IfSome, OnErr, OnOk, vec_len, vec_capacity};
+ghost use Rattle.std.specs.Prelude.{◌≡◌, ◌<◌, true, ◌-◌, ◌^◌, ◌⊎◌, [], length, min, slice_get, Ok, Err, IfErr, IfOk, IfSome, OnErr, OnOk, vec_len, vec_capacity};
 ghost use Rattle.std.specs.Option.{option_copied};
 ghost use Rattle.std.specs.Ordering.{is_le, nat_cmp};
 ghost use Rattle.kv_service.specs.Above.{first_above, kept_of, pair_cmp};
@@ -15,6 +15,7 @@ ghost use Rattle.kv_service.specs.StateTelling.{fault_of};
 ghost use Rattle.kv_service.specs.Store.{apply, is_value};
 
 use crate::fault::StateFault;
+use crate::lengths::{clients_length, pairs_length};
 use crate::outcome::{Kind, Outcome, Outcomes};
 use crate::reading::read_parts;
 use crate::store::Store;
@@ -26,6 +27,9 @@ use jp_types::message::Instance;
 use jp_types::octets::Octets;
 use std::alloc::Global;
 use std::marker::Model;
+
+/// The bytes of the executed number.
+const EXECUTED: usize = 8;
 
 /// Each client's last number and the reply to it, in ascending order of the clients.
 #[derive(Debug, Drop)]
@@ -290,17 +294,26 @@ impl State {
         self.clients.after(last)
     }
 
-    /// The one spelling of the state, from which another replica takes it over. It takes at most twice its length of
-    /// memory.
+    /// The one spelling of the state, from which another replica takes it over. It takes as much memory as it has bytes.
     #[tactic(auto, unfolding(crate::specs::StateBytes::state_bytes))]
     pub fn to_bytes(&self) -> Result<Octets, NoMemory>
         ensures { IfOk result (λ made. made ≡ state_bytes self.now) }
     {
-        let mut out = Vec::new(self.clients.allocator());
+        let mut out = Vec::with_capacity(self.clients.allocator(), self.bytes_length())?;
         out.extend_from_slice(&self.executed.to_be_bytes())?;
         push_pairs(&mut out, self.store.pairs())?;
         push_clients(&mut out, &self.clients.last)?;
         Ok(Octets::from_vec(out))
+    }
+
+    // How many bytes the spelling has, or the greatest `usize` where it has more.
+    #[tactic(auto, unfolding(crate::specs::StateBytes::state_bytes))]
+    fn bytes_length(&self) -> usize
+        ensures { result ≡ min (length (state_bytes self.now)) (2 ^ 64 - 1) }
+    {
+        EXECUTED
+            .saturating_add(pairs_length(self.store.pairs()))
+            .saturating_add(clients_length(&self.clients.last))
     }
 
     /// The state that the bytes spell, all of the bytes, or the first fault that is met as they are read from the front.
@@ -433,6 +446,27 @@ mod tests {
             };
             assert_eq!(rt; read.executed(), state.executed());
             assert_eq!(rt; read.to_bytes()?.bytes(), bytes.bytes());
+        }
+        Ok(())
+    }
+
+    // 5 batches, 3 keys of which the second has an empty value, and 4 clients with one reply of each kind.
+    const EACH_REPLY: &[u8] =
+        b"\0\0\0\0\0\0\0\x05\0\0\0\x03\0\x01a\0\x01b\0\x02ab\0\0\0\x01c\0\x03def\
+        \0\0\0\x04\0\0\0\0\0\0\0\x01\0\0\0\0\0\0\0\x01\x01\0\0\0\0\0\0\0\x02\0\0\0\0\0\0\0\x09\x02\0\x02gh\
+        \0\0\0\0\0\0\0\x03\0\0\0\0\0\0\x01\0\x03\0\0\0\0\0\0\x03\xff\0\x01\0\0\0\0\0\0\x04";
+
+    #[test]
+    fn bytes_take_their_length_of_memory(rt: HostRuntime) -> Result<(), Fail> {
+        let Ok(each_reply) = State::from_bytes(rt.alloc(), EACH_REPLY) else {
+            return Err("a state's bytes are read".into());
+        };
+        assert_eq!(rt; each_reply.to_bytes()?.bytes(), EACH_REPLY);
+        let (served, _outcomes) = served(rt.alloc())?;
+        for state in [State::new(rt.alloc()), served, each_reply] {
+            let bytes = state.to_bytes()?.into_vec();
+            assert_eq!(rt; state.bytes_length(), bytes.len());
+            assert_eq!(rt; bytes.capacity(), bytes.len());
         }
         Ok(())
     }

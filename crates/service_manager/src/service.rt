@@ -52,6 +52,13 @@ impl Service {
         &self.state
     }
 
+    /// The state, where the service is given up.
+    pub fn into_state(self) -> State
+        ensures { result ≡ self }
+    {
+        self.state
+    }
+
     /// Whether a turn with this decision would give a snapshot.
     pub fn snapshot_due(&self, d: &Decision) -> bool
         ensures { result ≡ makes_snapshot self.now d.now }
@@ -201,6 +208,7 @@ mod tests {
             assert_eq!(rt; served.restored, restored);
             assert_eq!(rt; service.state().executed(), executed);
         }
+        assert_eq!(rt; service.into_state().executed(), 0);
         Ok(())
     }
 }

@@ -8,7 +8,7 @@ use Rattle.kv_service.proofs.reading.Cursor.pairs.Goals as goal
 
 pub returns-in_err-key : goal.returns-in_err-key
 returns-in_err-key c =
-    let p = err_from_is_err_and c.from_residual.result c.from_residual.ensures.1 in
+    let p = err_from_is_err_and c.from_residual-in_err-key.result c.from_residual-in_err-key.ensures.1 in
     rw (p.1, p.2)
     (ends (λ e. e.0) pair pairs pairs_one_by_one (fault_of c.in_err-key.field-0.0) c.loop.pairs.items c.args.count c.loop.counter (option_copied c.loop.before) c.loop.self (pairs c.args.count None c.args.self.now) c.loop-test.true
     c.in_err-key.ensures c.loop.invariant)
