@@ -127,7 +127,8 @@ impl Slots {
         self.lent(slot)
     }
 
-    fn lent(&self, slot: u16) -> Option<Lent<'_>>
+    /// The same as a claim, over slots that are only read.
+    pub fn lent(&self, slot: u16) -> Option<Lent<'_>>
         ensures { lent_of result ≡ claim_of self.now slot }
     {
         let slot = self.slots.get(slot as usize)?;
