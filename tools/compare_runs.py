@@ -1,8 +1,8 @@
 #!/usr/bin/env python3
 """Compares the program with the definitions on random schedules.
 
-For each seed it draws a schedule of the forms that the program runs, step by step over what the program has sent so
-far, and takes the text that the program writes. Then a copy of this repository, in a temporary folder, is given a
+For each seed it draws a schedule, with lines of every form, step by step over what the program has sent so far, and
+takes the text that the program writes. Then a copy of this repository, in a temporary folder, is given a
 crate of one proof for each schedule: that the text computed from the definitions of the crate `cluster` is this text.
 `rt check` there computes them. It is no part of the gate: it needs python3, and some minutes.
 
@@ -32,12 +32,17 @@ class Drawing:
 
     def __init__(self, seed):
         self.random = random.Random(seed)
-        self.lines = ["cluster 3 viewss %d" % self.random.choice([1, 2, 4, 8])]
-        self.lines += ["deliver 1 0", "protocol 1", "deliver 0 2", "protocol 0", "deliver 2 1", "protocol 2"]
-        self.delivered = [3, 1, 2]  # of each replica, the least message that was not delivered in order
+        self.n = self.random.choice([3, 3, 3, 4, 5])
+        mode = self.random.choice(["viewss", "epochss"])
+        self.lines = ["cluster %d %s %d" % (self.n, mode, self.random.choice([1, 2, 4, 8]))]
+        self.delivered = [0] * self.n  # of each replica, the least message that was not delivered in order
+        self.down = set()
         self.numbers = {}
         self.leader = 0
         self.learn()
+        for _ in range(2 * self.n):
+            self.deliver(0)
+            self.deliver(self.random.randrange(1, self.n))
 
     def learn(self):
         """The addressee of each message that was sent so far."""
@@ -49,12 +54,27 @@ class Drawing:
             message = waiting[1] if len(waiting) > 1 and self.random.random() < 0.06 else waiting[0]
             self.delivered[replica] = message + 1
             self.lines += ["deliver %d %d" % (replica, message), "protocol %d" % replica]
+            self.learn()
         elif self.sent and self.random.random() < 0.3:
             message = self.random.randrange(len(self.sent))
             to = self.sent[message] if self.random.random() < 0.9 else replica
             self.lines.append("deliver %d %d" % (to, message))
         else:
             self.lines.append("protocol %d" % replica)
+
+    def value(self):
+        return "-" if self.random.random() < 0.2 else "%02x" % self.random.randrange(4)
+
+    def command(self):
+        key = "%02x" % self.random.randrange(4)
+        drawn = self.random.randrange(10)
+        if drawn < 4:
+            return "put %s %s" % (key, self.value())
+        if drawn < 7:
+            return "get %s" % key
+        if drawn < 8:
+            return "del %s" % key
+        return "cas %s %s %s" % (key, "none" if self.random.random() < 0.3 else self.value(), self.value())
 
     def request(self, replica):
         client = self.random.randrange(4)
@@ -63,34 +83,47 @@ class Drawing:
             number = self.random.randrange(1, number)
         else:
             self.numbers[client] = number
-        key = "%02x" % self.random.randrange(4)
-        value = "-" if self.random.random() < 0.2 else "%02x" % self.random.randrange(256)
-        command = "put %s %s" % (key, value) if self.random.random() < 0.5 else "get %s" % key
-        self.lines.append("request %d %d %d %s" % (replica, client, number, command))
+        self.lines.append("request %d %d %d %s" % (replica, client, number, self.command()))
         if self.random.random() < 0.8:
             self.lines.append("batch %d" % replica)
 
     def suspect(self, replica):
-        """Ticks enough that a follower enters the next view that it leads."""
-        for _ in range(11):
-            self.lines += ["tick %d" % replica, "protocol %d" % replica]
+        """A follower enters the next view that it leads: told to, or by ticks enough."""
+        if self.random.random() < 0.7:
+            self.lines += ["suspect %d" % replica, "protocol %d" % replica]
+        else:
+            for _ in range(11):
+                self.lines += ["tick %d" % replica, "protocol %d" % replica]
         self.leader = replica
 
+    def crash_or_start(self, replica):
+        """A replica that is down starts. One that is up crashes, where enough others are up."""
+        if replica in self.down:
+            self.down.discard(replica)
+            self.lines.append("start %d" % replica)
+        elif len(self.down) < (self.n - 1) // 2 or self.random.random() < 0.1:
+            self.down.add(replica)
+            self.lines.append("crash %d" % replica)
+
     def step(self):
-        drawn, replica = self.random.randrange(1000), self.random.randrange(3)
+        drawn, replica = self.random.randrange(1000), self.random.randrange(self.n)
         near = self.leader if self.random.random() < 0.8 else replica
-        if drawn < 420:
+        if drawn < 430:
             self.deliver(replica)
-        elif drawn < 600:
+        elif drawn < 570:
             self.lines.append("protocol %d" % replica)
-        elif drawn < 700:
+        elif drawn < 660:
             self.lines.append("service %d" % replica)
-        elif drawn < 850:
+        elif drawn < 790:
             self.request(near)
-        elif drawn < 900:
+        elif drawn < 840:
             self.lines.append("batch %d" % near)
-        elif drawn < 985:
+        elif drawn < 910:
             self.lines += ["tick %d" % near, "batch %d" % near, "protocol %d" % near]
+        elif drawn < 950:
+            self.lines.append("retransmit %d" % replica)
+        elif drawn < 985:
+            self.crash_or_start(replica)
         else:
             self.suspect(replica)
 
@@ -120,6 +153,15 @@ def proof(lines, text):
     )
 
 
+def standing_on(name):
+    """The crates that a crate's line in crates.txt names."""
+    with open(os.path.join(ROOT, "crates.txt")) as crates:
+        for line in crates:
+            if line.startswith(name + ":"):
+                return line.split(":", 1)[1].strip()
+    sys.exit("crates.txt has no line for " + name)
+
+
 def main():
     if len(sys.argv) != 4:
         sys.exit(__doc__)
@@ -131,7 +173,7 @@ def main():
         os.makedirs(os.path.join(crate, "src"))
         os.makedirs(os.path.join(crate, "proofs"))
         with open(os.path.join(copy, "crates.txt"), "a") as crates:
-            crates.write("compared: jp_types kv_service paxos_world replica_node cluster\n")
+            crates.write("compared: " + standing_on("cluster") + " cluster\n")
         with open(os.path.join(crate, "src", "lib.rt"), "w") as root:
             root.write("//! Runs of the program beside the definitions.\n#![tactic(auto)]\n\n/// Nothing.\npub fn nothing() {}\n")
         for seed in range(first, first + count):

@@ -1,5 +1,13 @@
-pub mod BuiltLines
+pub mod Fitting
+pub mod DrawingLemmas
+pub mod DrawnLemmas
+pub mod MadeLemmas
 pub mod Examples
+pub mod FrameLemmas
+pub mod GrowthLemmas
+pub mod MachineLemmas
+pub mod RunLemmas
+pub mod SteppingLemmas
 pub mod Words
 pub mod Lines
 pub mod Codes
@@ -20,5 +28,6 @@ mod EndedAnswer
 mod RecoveringLeader
 mod AnswerWords
 mod CrashAndReturn
+mod CrashAndCatchUp
 mod BatchExamples
 mod Summaries

@@ -16,7 +16,6 @@ use Rattle.jp_types.specs.Reading.{Reads}
 use Rattle.cluster.specs.declared.schedule.ScheduleFault.{ScheduleFault}
 use Rattle.cluster.specs.declared.schedule.ScheduleFault.TheVariants as fault
 use Rattle.cluster.specs.Schedule.{Raw, Bad, raw_lines, lines_of, is_end, after_end, at_line, as_text, rest_of, schedule_of}
-use Rattle.cluster.specs.Forms.{built}
 use Rattle.cluster.specs.declared.line.Head.{Head}
 use Rattle.cluster.specs.declared.line.Line.{Line}
 use Rattle.cluster.specs.declared.schedule.Schedule.{Schedule}
@@ -74,14 +73,14 @@ not_found input e =
 -- what stands behind a line, and this line in front of it
 behind_line : ℕ → ℕ → List ℕ → Line → Result (List Line) Bad
 behind_line n k input line =
-    (let others = rest_of built n (suc k) (lines_of (behind_first input)) in if is_end line then after_end (suc k) (lines_of (behind_first input)) else others)
+    (let others = rest_of n (suc k) (lines_of (behind_first input)) in if is_end line then after_end (suc k) (lines_of (behind_first input)) else others)
     >>= λ lines. Ok (line ∷ lines)
 
 -- the lines from line k on begin with the one that stands first
-rest_first : (n k : ℕ) (input : List ℕ) → rest_of built n k (lines_of input) ≡ (line_at n k input >>= behind_line n k input)
+rest_first : (n k : ℕ) (input : List ℕ) → rest_of n k (lines_of input) ≡ (line_at n k input >>= behind_line n k input)
 unfolding behind_line
 rest_first n k [] = refl
-rest_first n k (c ∷ cs) = ap (rest_of built n k) (lines_first (c ∷ cs) (omega arith))
+rest_first n k (c ∷ cs) = ap (rest_of n k) (lines_first (c ∷ cs) (omega arith))
 
 -- lines that were read, in front of what there is
 in_front : List Line → Result (List Line) Bad → Result (List Line) Bad
@@ -111,11 +110,11 @@ pub going_on : (n k : ℕ) (lines : List Line) (input : List ℕ) (line : Line) 
     → with_lines n (k + 1) (lines ++ line ∷ []) (behind_first input) ≡ with_lines n k lines input
 unfolding in_front behind_line
 going_on n k lines input line e more =
-    let followed : Bool → Result (List Line) Bad = λ b. (if b then after_end (suc k) (lines_of (behind_first input)) else rest_of built n (suc k) (lines_of (behind_first input))) in
+    let followed : Bool → Result (List Line) Bad = λ b. (if b then after_end (suc k) (lines_of (behind_first input)) else rest_of n (suc k) (lines_of (behind_first input))) in
     sym
     (with_line n k lines input line e
     ∙ ap (λ b. in_front lines (followed b >>= λ others. Ok (line ∷ others))) more
-    ∙ in_front-push lines line (rest_of built n (suc k) (lines_of (behind_first input)))
+    ∙ in_front-push lines line (rest_of n (suc k) (lines_of (behind_first input)))
     ∙ ap (λ j. with_lines n j (lines ++ line ∷ []) (behind_first input)) (sym (add-one k)))
 
 -- the last, and what stands behind it
@@ -123,7 +122,7 @@ with_end : (n k : ℕ) (lines : List Line) (input : List ℕ) (line : Line) → 
     → with_lines n k lines input ≡ in_front (lines ++ line ∷ []) (after_end (k + 1) (lines_of (behind_first input)))
 unfolding behind_line
 with_end n k lines input line e last =
-    let followed : Bool → Result (List Line) Bad = λ b. (if b then after_end (suc k) (lines_of (behind_first input)) else rest_of built n (suc k) (lines_of (behind_first input))) in
+    let followed : Bool → Result (List Line) Bad = λ b. (if b then after_end (suc k) (lines_of (behind_first input)) else rest_of n (suc k) (lines_of (behind_first input))) in
     with_line n k lines input line e
     ∙ ap (λ b. in_front lines (followed b >>= λ others. Ok (line ∷ others))) last
     ∙ in_front-push lines line (after_end (suc k) (lines_of (behind_first input)))
@@ -166,16 +165,16 @@ after_told k input f h told = rw (lines_first input h) (fault_told k f (as_text 
 
 -- the lines behind a first line
 rest_after : List ℕ → Head → Result Schedule Bad
-rest_after input head = rest_of built head.n 2 (lines_of (behind_first input)) >>= λ lines. Ok (record { head = head; lines = lines })
+rest_after input head = rest_of head.n 2 (lines_of (behind_first input)) >>= λ lines. Ok (record { head = head; lines = lines })
 
-schedule_by_head : (input : List ℕ) → schedule_of built (lines_of input) ≡ (head_at input >>= rest_after input)
+schedule_by_head : (input : List ℕ) → schedule_of (lines_of input) ≡ (head_at input >>= rest_after input)
 unfolding rest_after
 schedule_by_head [] = refl
-schedule_by_head (c ∷ cs) = ap (schedule_of built) (lines_first (c ∷ cs) (omega arith))
+schedule_by_head (c ∷ cs) = ap (schedule_of) (lines_first (c ∷ cs) (omega arith))
 
 -- a schedule that is read
-pub schedule_first : (input : List ℕ) (head : Head) (lines : List Line) → head_at input ≡ Ok head → rest_of built head.n 2 (lines_of (behind_first input)) ≡ Ok lines
-    → schedule_of built (lines_of input) ≡ Ok (record { head = head; lines = lines })
+pub schedule_first : (input : List ℕ) (head : Head) (lines : List Line) → head_at input ≡ Ok head → rest_of head.n 2 (lines_of (behind_first input)) ≡ Ok lines
+    → schedule_of (lines_of input) ≡ Ok (record { head = head; lines = lines })
 unfolding rest_after
 schedule_first input head lines e rest =
     schedule_by_head input ∙ ap (λ r. r >>= rest_after input) e ∙ ap (λ r. r >>= λ lines. Ok (record { head = head; lines = lines })) rest
@@ -187,12 +186,12 @@ told_first fault.TooLarge r next h = h
 told_first fault.NoMemory r next h = tt
 
 -- the first line is wrong
-pub head_told : (input : List ℕ) (f : ScheduleFault) → ReadsLines {A = Head} (Err f) (head_at input) → ReadsLines {A = Schedule} (Err f) (schedule_of built (lines_of input))
+pub head_told : (input : List ℕ) (f : ScheduleFault) → ReadsLines {A = Head} (Err f) (head_at input) → ReadsLines {A = Schedule} (Err f) (schedule_of (lines_of input))
 head_told input f h = rw (schedule_by_head input) (told_first f (head_at input) (rest_after input) h)
 
 -- one after it is
-pub rest_told : (input : List ℕ) (head : Head) (f : ScheduleFault) → head_at input ≡ Ok head → ReadsLines {A = List Line} (Err f) (rest_of built head.n 2 (lines_of (behind_first input)))
-    → ReadsLines {A = Schedule} (Err f) (schedule_of built (lines_of input))
+pub rest_told : (input : List ℕ) (head : Head) (f : ScheduleFault) → head_at input ≡ Ok head → ReadsLines {A = List Line} (Err f) (rest_of head.n 2 (lines_of (behind_first input)))
+    → ReadsLines {A = Schedule} (Err f) (schedule_of (lines_of input))
 unfolding rest_after
 rest_told input head f e h =
-    rw (schedule_by_head input, e) (told_first f (rest_of built head.n 2 (lines_of (behind_first input))) (λ lines. Ok (record { head = head; lines = lines })) h)
+    rw (schedule_by_head input, e) (told_first f (rest_of head.n 2 (lines_of (behind_first input))) (λ lines. Ok (record { head = head; lines = lines })) h)

@@ -3,8 +3,14 @@ pub mod Batching
 pub mod Cluster
 pub mod Run
 pub mod Text
-pub mod Forms
 pub mod Reading
 pub mod Generator
+pub mod Machine
+pub mod Frames
+pub mod Machines
+pub mod Stepping
+pub mod Runs
+pub mod Drawing
 pub mod Lines
 pub mod Heads
+pub mod Fitting

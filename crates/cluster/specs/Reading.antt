@@ -2,7 +2,7 @@
 use Rattle.std.specs.Prelude.{◌≡◌, ℕ, ◌++◌, ◌==◌, nat_lt, length, if◌then◌else◌, bytes_eq, codes, List, [], ◌∷◌, Bool, true, Option, Some, None, Result, Ok, Err}
 use Rattle.std.specs.List.{position_or_len, before_first, after_first}
 use Rattle.jp_types.specs.declared.cause.Cause.{Cause}
-use Rattle.jp_types.specs.declared.cause.Cause.TheVariants.{NoCluster, Operands, Unknown, NoEnd, Text, Later}
+use Rattle.jp_types.specs.declared.cause.Cause.TheVariants.{NoCluster, Operands, Unknown, NoEnd, Text}
 use Rattle.jp_types.specs.Words.{◌>>=◌, where_so, words_of}
 use Rattle.cluster.specs.declared.line.Head.{Head}
 use Rattle.cluster.specs.declared.line.Line.{Line}
@@ -10,8 +10,7 @@ use Rattle.jp_types.specs.declared.read_command.LineFault.{LineFault}
 use Rattle.jp_types.specs.declared.read_command.LineFault.TheVariants as line_fault
 use Rattle.cluster.specs.declared.schedule.ScheduleFault.{ScheduleFault}
 use Rattle.cluster.specs.declared.schedule.ScheduleFault.TheVariants as fault
-use Rattle.cluster.specs.Schedule.{Bad, Raw, is_text_line, as_text, replica, plain, deliver_of, end_of, line_taken, head_taken, at_line, rest_of, lines_of}
-use Rattle.cluster.specs.Forms.{is_line_built, built}
+use Rattle.cluster.specs.Schedule.{Bad, Raw, is_text_line, as_text, replica, plain, deliver_of, end_of, line_by_words, first_by_words, at_line, rest_of, lines_of}
 
 -- ---- Lines
 
@@ -52,14 +51,10 @@ line_to_lane n word operands =
     else (if bytes_eq word (codes "deliver") then deliver_of n operands
     else line_of_stage n word operands)))
 
--- a line after the first, if it is of a form that is run
-abbrev pub built_line : Line → Result Line Cause
-built_line line = where_so (is_line_built line) line Later
-
 -- the line that a text spells without its line feed: the first where there is none yet, and else one after it
 abbrev pub line_of_text : Option Head → List ℕ → Result Line Cause
-line_of_text None text = as_text (record { text = text; ended = true }) (head_taken built) >>= λ head. Ok (Line.Cluster head)
-line_of_text (Some head) text = as_text (record { text = text; ended = true }) (line_taken built head.n)
+line_of_text None text = as_text (record { text = text; ended = true }) first_by_words >>= λ head. Ok (Line.Cluster head)
+line_of_text (Some head) text = as_text (record { text = text; ended = true }) (line_by_words head.n)
 
 -- ---- Schedules
 
@@ -90,13 +85,13 @@ behind_first input = after_first is_feed input
 -- the first line of a schedule
 abbrev pub head_at : List ℕ → Result Head Bad
 head_at [] = Err (record { line = 1; cause = NoCluster })
-head_at (c ∷ cs) = at_line 1 (as_text (first_raw (c ∷ cs)) (head_taken built))
+head_at (c ∷ cs) = at_line 1 (as_text (first_raw (c ∷ cs)) first_by_words)
 
 -- the line that stands first, at line k
 abbrev pub line_at : ℕ → ℕ → List ℕ → Result Line Bad
 line_at n k [] = Err (record { line = k; cause = NoEnd })
-line_at n k (c ∷ cs) = at_line k (as_text (first_raw (c ∷ cs)) (line_taken built n))
+line_at n k (c ∷ cs) = at_line k (as_text (first_raw (c ∷ cs)) (line_by_words n))
 
 -- the lines that were read, and those that an input spells from line k on
 abbrev pub with_lines : ℕ → ℕ → List Line → List ℕ → Result (List Line) Bad
-with_lines n k lines input = rest_of built n k (lines_of input) >>= λ others. Ok (lines ++ others)
+with_lines n k lines input = rest_of n k (lines_of input) >>= λ others. Ok (lines ++ others)

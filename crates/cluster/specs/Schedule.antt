@@ -3,7 +3,7 @@ use Rattle.std.specs.Prelude.{ℕ, suc, ◌-◌, ◌^◌, Bool, true, false, ◌
 use Rattle.std.specs.List.{list_all, slice_split}
 use Rattle.std.specs.Int.{is_in_range}
 use Rattle.jp_types.specs.declared.cause.Cause.{Cause}
-use Rattle.jp_types.specs.declared.cause.Cause.TheVariants.{NoCluster, Unknown, Operands, BadMode, NoEnd, AfterEnd, Text, Later}
+use Rattle.jp_types.specs.declared.cause.Cause.TheVariants.{NoCluster, Unknown, Operands, BadMode, NoEnd, AfterEnd, Text}
 use Rattle.jp_types.specs.declared.mode.Mode.{Mode}
 use Rattle.jp_types.specs.declared.mode.Mode.TheVariants.{ViewSs, EpochSs}
 use Rattle.jp_types.specs.Words.{◌>>=◌, where_so, is_empty, words_of, number}
@@ -122,44 +122,23 @@ abbrev pub after_end : ℕ → List Raw → Result (List Line) Bad
 after_end k [] = Ok []
 after_end k (raw ∷ raws) = at_line k (as_text raw (λ words. Err AfterEnd))
 
--- the lines that a reader takes; any other that is well formed has the cause Later
-pub record Forms : Type 0 where
-  pub head : Head → Bool
-  pub line : Line → Bool
-
--- all of them
-abbrev pub all_forms : Forms
-all_forms = record { head = λ head. true; line = λ line. true }
-
--- a line after the first that is taken, by its words
-abbrev pub line_taken : Forms → ℕ → List (List ℕ) → Result Line Cause
-line_taken forms n words = line_by_words n words >>= λ line. where_so (forms.line line) line Later
-
--- the first line, where it is taken
-abbrev pub head_taken : Forms → List (List ℕ) → Result Head Cause
-head_taken forms words = first_by_words words >>= λ head. where_so (forms.head head) head Later
-
 -- the lines from line k on, up to `end`
-abbrev pub rest_of : Forms → ℕ → ℕ → List Raw → Result (List Line) Bad
-rest_of forms n k [] = Err (record { line = k; cause = NoEnd })
-rest_of forms n k (raw ∷ raws) =
-    at_line k (as_text raw (line_taken forms n)) >>= λ line.
-    (let others = rest_of forms n (suc k) raws in if is_end line then after_end (suc k) raws else others) >>= λ lines.
+abbrev pub rest_of : ℕ → ℕ → List Raw → Result (List Line) Bad
+rest_of n k [] = Err (record { line = k; cause = NoEnd })
+rest_of n k (raw ∷ raws) =
+    at_line k (as_text raw (line_by_words n)) >>= λ line.
+    (let others = rest_of n (suc k) raws in if is_end line then after_end (suc k) raws else others) >>= λ lines.
     Ok (line ∷ lines)
 
 -- the schedule that lines spell
-abbrev pub schedule_of : Forms → List Raw → Result Schedule Bad
-schedule_of forms [] = Err (record { line = 1; cause = NoCluster })
-schedule_of forms (raw ∷ raws) =
-    at_line 1 (as_text raw (head_taken forms)) >>= λ head. rest_of forms head.n 2 raws >>= λ lines. Ok (record { head = head; lines = lines })
-
--- the schedule that an input spells in the lines that are taken
-unfoldable pub read_forms : Forms → List ℕ → Result Schedule Bad
-read_forms forms input = schedule_of forms (lines_of input)
+abbrev pub schedule_of : List Raw → Result Schedule Bad
+schedule_of [] = Err (record { line = 1; cause = NoCluster })
+schedule_of (raw ∷ raws) =
+    at_line 1 (as_text raw first_by_words) >>= λ head. rest_of head.n 2 raws >>= λ lines. Ok (record { head = head; lines = lines })
 
 -- the schedule that an input spells
 unfoldable pub read_schedule : List ℕ → Result Schedule Bad
-read_schedule input = schedule_of all_forms (lines_of input)
+read_schedule input = schedule_of (lines_of input)
 
 -- how many bytes an input may have
 abbrev pub input_limit : ℕ

@@ -5,13 +5,12 @@ ghost use Rattle.std.specs.List.{list_all};
 ghost use Rattle.std.specs.Int.{is_in_range};
 ghost use Rattle.jp_types.specs.Words.{is_empty};
 ghost use Rattle.jp_types.specs.Reading.{Reads};
-ghost use Rattle.cluster.specs.Schedule.{mode, replica, head_of, request_of, deliver_of, end_of, line_by_words, first_by_words, as_text, line_taken, head_taken};
-ghost use Rattle.cluster.specs.Forms.{puts_or_gets, is_head_built, is_line_built, built};
-ghost use Rattle.cluster.specs.Reading.{text_words, lone_replica, line_of_life, line_of_retransmitter, line_of_stage, line_to_lane, built_line, line_of_text};
+ghost use Rattle.cluster.specs.Schedule.{mode, replica, head_of, request_of, deliver_of, end_of, line_by_words, first_by_words, as_text};
+ghost use Rattle.cluster.specs.Reading.{text_words, lone_replica, line_of_life, line_of_retransmitter, line_of_stage, line_to_lane, line_of_text};
 
 use crate::line::{Head, Line};
 use jp_types::cause::Cause;
-use jp_types::command::{Command, Request};
+use jp_types::command::Request;
 use jp_types::message::ReplicaId;
 use jp_types::mode::Mode;
 use jp_types::read_command::{LineFault, command_named};
@@ -23,51 +22,6 @@ const NUMBER_LIMIT: u64 = 281474976710656;
 
 /// A message's number in a schedule is at most this.
 const MESSAGE_LIMIT: u64 = 4294967295;
-
-// ---- The forms that are run so far
-
-fn puts_or_gets(command: &Command) -> bool
-    ensures { result ≡ puts_or_gets command.now }
-{
-    match command {
-        Command::Put { key: _, value: _ } | Command::Get { key: _ } => true,
-        Command::Del { key: _ }
-        | Command::Cas {
-            key: _,
-            old: _,
-            new: _,
-        } => false,
-    }
-}
-
-/// Whether a first line is of a form that the program runs.
-pub fn is_head_built(head: Head) -> bool
-    ensures { result ≡ is_head_built head }
-{
-    head.n == 3 && head.mode == Mode::ViewSs
-}
-
-/// Whether a line after the first is of a form that the program runs.
-pub fn is_line_built(line: &Line) -> bool
-    ensures { result ≡ is_line_built line.now }
-{
-    match line {
-        Line::Request {
-            replica: _,
-            request,
-        } => puts_or_gets(&request.command),
-        Line::Batch(_) | Line::Tick(_) | Line::Protocol(_) | Line::Service(_) | Line::End => true,
-        Line::Deliver {
-            replica: _,
-            message: _,
-        } => true,
-        Line::Cluster(_)
-        | Line::Suspect(_)
-        | Line::Retransmit(_)
-        | Line::Crash(_)
-        | Line::Start(_) => false,
-    }
-}
 
 // ---- Operands
 
@@ -303,50 +257,22 @@ fn first_by_words(words: &[&[u8]]) -> Result<Head, Cause>
     }
 }
 
-fn built_line(line: Line) -> Result<Line, LineFault>
-    ensures { Reads result (built_line line) }
-{
-    if is_line_built(&line) {
-        Ok(line)
-    } else {
-        Err(LineFault::Cause(Cause::Later))
-    }
-}
-
-fn line_taken(alloc: Global, n: u8, words: &[&[u8]]) -> Result<Line, LineFault>
-    ensures { Reads result (line_taken built n (map (λ word. word.now) words.now)) }
-{
-    let line = line_by_words(alloc, n, words)?;
-    built_line(line)
-}
-
-fn head_taken(words: &[&[u8]]) -> Result<Head, Cause>
-    ensures { result ≡ head_taken built (map (λ word. word.now) words.now) }
-{
-    let head = first_by_words(words)?;
-    if is_head_built(head) {
-        Ok(head)
-    } else {
-        Err(Cause::Later)
-    }
-}
-
 /// Reads the first line of a schedule; `ended` tells whether a line feed ends it.
 #[tactic(auto, using(crate::proofs::Words::from_words))]
 pub(crate) fn read_head(alloc: Global, text: &[u8], ended: bool) -> Result<Head, LineFault>
-    ensures { Reads result (as_text (record { text = text.now; ended = ended }) (head_taken built)) }
+    ensures { Reads result (as_text (record { text = text.now; ended = ended }) first_by_words) }
 {
     let words = text_words(alloc, text, ended)?;
-    Ok(head_taken(&words)?)
+    Ok(first_by_words(&words)?)
 }
 
 /// Reads a line after the first, among `n` replicas.
 #[tactic(auto, using(crate::proofs::Words::from_words))]
 pub(crate) fn read_after(alloc: Global, n: u8, text: &[u8], ended: bool) -> Result<Line, LineFault>
-    ensures { Reads result (as_text (record { text = text.now; ended = ended }) (line_taken built n)) }
+    ensures { Reads result (as_text (record { text = text.now; ended = ended }) (line_by_words n)) }
 {
     let words = text_words(alloc, text, ended)?;
-    line_taken(alloc, n, &words)
+    line_by_words(alloc, n, &words)
 }
 
 /// Reads one line without its line feed: the first where there is no head yet, and else one that stands after it.
@@ -373,8 +299,10 @@ mod tests {
         assert_eq!(rt; head.window, 4);
         let tick = read_line(rt.alloc(), b"tick 2", Some(head))?;
         assert!(rt; matches!(tick, Line::Tick(2)));
-        let late = read_line(rt.alloc(), b"crash 2", Some(head)).err();
-        assert_eq!(rt; late, Some(LineFault::Cause(Cause::Later)));
+        let crash = read_line(rt.alloc(), b"crash 2", Some(head))?;
+        assert!(rt; matches!(crash, Line::Crash(2)));
+        let other = read_line(rt.alloc(), b"crash 3", Some(head)).err();
+        assert_eq!(rt; other, Some(LineFault::Cause(Cause::Number)));
         Ok(())
     }
 }

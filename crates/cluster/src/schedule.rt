@@ -6,8 +6,8 @@ ghost use Rattle.jp_types.specs.declared.cause.Cause.{Cause};
 ghost use Rattle.jp_types.specs.Reading.{Reads};
 ghost use Rattle.cluster.specs.declared.line.Line.{Line};
 ghost use Rattle.cluster.specs.declared.schedule.ScheduleFault.TheVariants as fault;
-ghost use Rattle.cluster.specs.Schedule.{is_end, lines_of, as_text, line_taken, head_taken, after_end, rest_of, schedule_of, read_forms, has_too_many_lines};
-ghost use Rattle.cluster.specs.Forms.{built};
+ghost use Rattle.cluster.specs.Schedule.{is_end, lines_of, as_text, line_by_words, first_by_words, after_end, rest_of, schedule_of, read_schedule, has_too_many_lines};
+ghost use Rattle.cluster.specs.Fitting.{IsFit};
 ghost use Rattle.cluster.specs.Reading.{ReadsLines, fault_at, is_feed, first_raw, behind_first, head_at, line_at, with_lines};
 
 use crate::line::{Head, Line};
@@ -120,7 +120,7 @@ fn has_too_many_lines(input: &[u8]) -> bool
 
 // The line that stands first in an input that is not empty.
 fn first_line(alloc: Global, n: u8, input: &[u8]) -> Result<Line, LineFault>
-    ensures { Reads result (as_text (first_raw input.now) (line_taken built n)) }
+    ensures { Reads result (as_text (first_raw input.now) (line_by_words n)) }
 {
     let front = first_len(input);
     read_after(alloc, n, &input[..front], front < input.len())
@@ -197,7 +197,7 @@ fn read_one<'a>(
 
 // The lines after the first.
 fn read_rest(alloc: Global, n: u8, input: &[u8]) -> Result<Listed<Line>, ScheduleFault>
-    ensures { ReadsLines result (rest_of built n 2 (lines_of input.now)) }
+    ensures { ReadsLines result (rest_of n 2 (lines_of input.now)) }
 {
     let mut lines = Listed::empty(alloc);
     let mut rest = input;
@@ -213,7 +213,7 @@ fn read_rest(alloc: Global, n: u8, input: &[u8]) -> Result<Listed<Line>, Schedul
 
 // The first line of an input that is not empty.
 fn first_head(alloc: Global, input: &[u8]) -> Result<Head, LineFault>
-    ensures { Reads result (as_text (first_raw input.now) (head_taken built)) }
+    ensures { Reads result (as_text (first_raw input.now) first_by_words) }
 {
     let front = first_len(input);
     read_head(alloc, &input[..front], front < input.len())
@@ -238,7 +238,7 @@ fn head_at(alloc: Global, input: &[u8]) -> Result<Head, ScheduleFault>
 
 #[tactic(auto, using(crate::proofs::Lines::schedule_first, crate::proofs::Lines::head_told, crate::proofs::Lines::rest_told))]
 fn schedule_of(alloc: Global, input: &[u8]) -> Result<Schedule, ScheduleFault>
-    ensures { ReadsLines result (schedule_of built (lines_of input.now)) }
+    ensures { ReadsLines result (schedule_of (lines_of input.now)) }
 {
     let head = head_at(alloc, input)?;
     let lines = read_rest(alloc, head.n, behind_first(input))?;
@@ -246,11 +246,12 @@ fn schedule_of(alloc: Global, input: &[u8]) -> Result<Schedule, ScheduleFault>
 }
 
 /// Reads a schedule. Too many lines are told before any line that is wrong.
-#[tactic(auto, unfolding(crate::specs::Schedule::read_forms))]
+#[tactic(auto, unfolding(crate::specs::Schedule::read_schedule), using(crate::proofs::Fitting::read_fits))]
 pub fn read_schedule(alloc: Global, input: &[u8]) -> Result<Schedule, ScheduleFault>
-    ensures ok { IfOk result (λ s. read_forms built input.now ≡ Ok s) }
+    ensures ok { IfOk result (λ s. read_schedule input.now ≡ Ok s) }
+    ensures fit { IfOk result IsFit }
     ensures bad { (line : ℕ) (cause : Cause) → result ≡ Err (ScheduleFault.Bad line cause)
-        → read_forms built input.now ≡ Err (record { line = line; cause = cause }) }
+        → read_schedule input.now ≡ Err (record { line = line; cause = cause }) }
     ensures large { (result ≡ Err ScheduleFault.TooLarge) ↔ (has_too_many_lines input.now ≡ true) }
     ensures few { result ≢ Err ScheduleFault.TooLarge → has_too_many_lines input.now ≡ false }
 {
@@ -290,18 +291,28 @@ mod tests {
 
     #[test]
     fn reads_schedules(rt: HostRuntime) -> Result<(), Fail> {
-        for (input, window, lines) in [
-            (PLAIN_PATH, 4, 20),
-            ("cluster 3 viewss 64\nend\n", 64, 1),
+        for (input, n, mode, window, lines) in [
+            (PLAIN_PATH, 3, Mode::ViewSs, 4, 20),
+            ("cluster 9 epochss 64\nend\n", 9, Mode::EpochSs, 64, 1),
             (
                 "cluster 3 viewss 1\nrequest 2 1023 281474976710656 put 00ff -\nend\n",
+                3,
+                Mode::ViewSs,
                 1,
                 2,
             ),
+            (
+                "cluster 4 epochss 2\nsuspect 3\nretransmit 0\ncrash 1\nstart 1\n\
+                request 0 0 1 cas 61 none 62\nrequest 0 0 2 del 61\ndeliver 3 4294967295\nend\n",
+                4,
+                Mode::EpochSs,
+                2,
+                8,
+            ),
         ] {
             let read = read_schedule(rt.alloc(), input.as_bytes())?;
-            assert_eq!(rt; read.head.n, 3);
-            assert_eq!(rt; read.head.mode, Mode::ViewSs);
+            assert_eq!(rt; read.head.n, n);
+            assert_eq!(rt; read.head.mode, mode);
             assert_eq!(rt; read.head.window, window);
             assert_eq!(rt; read.lines.as_slice().len(), lines);
         }
@@ -320,9 +331,9 @@ mod tests {
             ("cluster 2 viewss 4\n", 1, Cause::Number),
             ("cluster 3 fullss 0\n", 1, Cause::BadMode),
             ("cluster 3 viewss 65\n", 1, Cause::Number),
-            ("cluster 5 viewss 4\n", 1, Cause::Later),
-            ("cluster 3 epochss 4\n", 1, Cause::Later),
+            ("cluster 10 epochss 4\n", 1, Cause::Number),
             ("cluster 3 viewss 4\n", 2, Cause::NoEnd),
+            ("cluster 9 epochss 64\n", 2, Cause::NoEnd),
         ] {
             let fault = read_schedule(rt.alloc(), input.as_bytes()).err();
             assert_eq!(rt; fault, Some(ScheduleFault::Bad { line, cause }), "{input}");
@@ -350,9 +361,14 @@ mod tests {
             ("request 0 7 1 get 6\n", 2, Cause::Bytes),
             ("request 0 7 1 get 6A\n", 2, Cause::Bytes),
             ("request 0 7 1 get -\n", 2, Cause::Bytes),
-            ("request 0 7 1 del 61\n", 2, Cause::Later),
-            ("suspect 1\n", 2, Cause::Later),
+            ("request 0 7 1 cas 61 62\n", 2, Cause::BadCommand),
+            ("request 0 7 1 cas 61 62 6\n", 2, Cause::Bytes),
+            ("suspect 1\n", 3, Cause::NoEnd),
             ("suspect 3\n", 2, Cause::Number),
+            ("crash 1\nstart\n", 3, Cause::Operands),
+            ("retransmit 0 0\n", 2, Cause::Operands),
+            ("deliver 0 4294967295\n", 3, Cause::NoEnd),
+            ("deliver 0 4294967296\n", 2, Cause::Number),
             ("tick  1\nend\n", 2, Cause::Text),
             ("tick 1\nend", 3, Cause::Text),
             ("end\ntick 1\n", 3, Cause::AfterEnd),

@@ -34,6 +34,17 @@ pub(crate) fn push_decimal(number: u64, out: &mut Vec<u8>) -> Result<(), NoMemor
     push_byte(b'0' + (number % 10) as u8, out)
 }
 
+/// Appends a number of 128 bits in decimal.
+pub(crate) fn push_wide_decimal(number: u128, out: &mut Vec<u8>) -> Result<(), NoMemory>
+    ensures { OnOk result (out.new.items ≡ out.old.items ++ decimal number) }
+{
+    if number < 10 {
+        return push_byte(b'0' + number as u8, out);
+    }
+    push_wide_decimal(number / 10, out)?;
+    push_byte(b'0' + (number % 10) as u8, out)
+}
+
 /// Appends numbers, each with a space before it.
 pub(crate) fn push_numbers(all: &[u64], out: &mut Vec<u8>) -> Result<(), NoMemory>
     ensures { OnOk result (out.new.items ≡ out.old.items ++ numbers all.now) }

@@ -108,7 +108,8 @@ fn push_up(last: &Last, out: &mut Vec<u8>) -> Result<(), NoMemory>
     push_pairs(last.state.store().pairs(), out)
 }
 
-fn show_phase(phase: Phase, out: &mut Vec<u8>) -> Result<(), NoMemory>
+/// Appends the word of a phase.
+pub(crate) fn show_phase(phase: Phase, out: &mut Vec<u8>) -> Result<(), NoMemory>
     ensures { OnOk result (out.new.items ≡ out.old.items ++ phase_text phase) }
 {
     match phase {

@@ -2,7 +2,7 @@
 
 ghost use Rattle.std.specs.Prelude.{◌≡◌, ℕ, List, Ok};
 ghost use Rattle.cluster.specs.declared.schedule.Schedule.{Schedule};
-ghost use Rattle.cluster.specs.Schedule.{Forms, read_forms, read_schedule};
+ghost use Rattle.cluster.specs.Schedule.{read_schedule};
 ghost use Rattle.cluster_laws.specs.Laws.{IsSchedule, WorldRun, WorldSame, AllShown, OneList, StatesListed, KnownSame, AtMostOnce, ExecutesOnceIn, Replies, FirstShowsNone, RecoveringIsSilent, Rejoins, RejoinsDue};
 
 /// The steps of a schedule's run are a run of the world, and after each line the cluster's messages, lives and stable numbers are the world's.
@@ -46,8 +46,7 @@ pub fn rejoins_exactly()
     ensures due { (s : Schedule) → IsSchedule s → RejoinsDue s }
 {}
 
-/// A schedule that is read, in whichever forms of lines, is one that the laws above speak of.
+/// A schedule that is read is one that the laws above speak of.
 pub fn reads_within_limits()
-    ensures forms { (forms : Forms) (input : List ℕ) (s : Schedule) → read_forms forms input ≡ Ok s → IsSchedule s }
-    ensures all { (input : List ℕ) (s : Schedule) → read_schedule input ≡ Ok s → IsSchedule s }
+    ensures { (input : List ℕ) (s : Schedule) → read_schedule input ≡ Ok s → IsSchedule s }
 {}

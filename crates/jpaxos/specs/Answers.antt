@@ -5,10 +5,12 @@ use Rattle.jp_types.specs.declared.status.Status.{Status}
 use Rattle.jp_types.specs.declared.status.Status.TheVariants.{Done, Usage, BadSchedule, TooLarge, ReadFault, WriteFault, NoMemory}
 use Rattle.cluster.specs.declared.schedule.Schedule.{Schedule}
 use Rattle.cluster.specs.declared.event.Run.{Run}
-use Rattle.cluster.specs.Schedule.{Bad, is_too_long, has_too_many_lines, read_forms}
-use Rattle.cluster.specs.Forms.{built}
+use Rattle.cluster.specs.Schedule.{Bad, is_too_long, has_too_many_lines, read_schedule}
+use Rattle.cluster.specs.Runs.{Runs, RunsPast}
+use Rattle.cluster.specs.Drawing.{IsDrawn, IsDrawnPast}
 use Rattle.cluster.specs.Lines.{HasLines}
 use Rattle.cluster.specs.Text.{show}
+use Rattle.cluster.specs.Generator.{summary}
 use Rattle.jpaxos.specs.Words.{refusal}
 
 -- an input within the sizes
@@ -16,23 +18,30 @@ pub record Fits (input : List ℕ) : Type 0 where
   pub bytes : is_too_long input ≡ false
   pub lines : has_too_many_lines input ≡ false
 
--- the text of a run with a schedule's lines
+-- the text of a run of a schedule, whose events answer its lines
 pub record IsShown (schedule : Schedule) (text : List ℕ) : Type 0 where
   pub run : Run
+  pub runs : Runs schedule run
   pub lines : HasLines schedule run
   pub shown : text ≡ show run
 
--- an input that spells a schedule, and the text of a run with its lines
+-- the answer to a schedule: its status, with its text
+abbrev pub IsRunAnswer : Schedule → List ℕ → Status → Type 0
+IsRunAnswer schedule text Done = IsShown schedule text
+IsRunAnswer schedule text (TooLarge kind) = (kind ≡ 3) × (RunsPast schedule × (text ≡ refusal (TooLarge 3)))
+IsRunAnswer schedule text _ = ⊥
+
+-- an input that spells a schedule, and the text of a run of it
 pub record IsRunText (input text : List ℕ) : Type 0 where
   pub fits : Fits input
   pub schedule : Schedule
-  pub reads : read_forms built input ≡ Ok schedule
+  pub reads : read_schedule input ≡ Ok schedule
   pub shown : IsShown schedule text
 
 -- an input whose first bad line is this one, and the line that tells it
 pub record IsBadLine (input text : List ℕ) (status : Status) (bad : Bad) : Type 0 where
   pub fits : Fits input
-  pub reads : read_forms built input ≡ Err bad
+  pub reads : read_schedule input ≡ Err bad
   pub told : text ≡ refusal status
 
 -- an input with too many bytes, and the line that tells it
@@ -46,9 +55,17 @@ pub record HasTooManyLines (input text : List ℕ) : Type 0 where
   pub lines : has_too_many_lines input ≡ true
   pub told : text ≡ refusal (TooLarge 2)
 
--- an input that is too large, by the limit that it passes: 1 for bytes, 2 for lines
+-- an input that spells a schedule whose run sends too many bytes, and the line that tells it
+pub record SendsTooManyBytes (input text : List ℕ) : Type 0 where
+  pub fits : Fits input
+  pub schedule : Schedule
+  pub reads : read_schedule input ≡ Ok schedule
+  pub sends : RunsPast schedule
+  pub told : text ≡ refusal (TooLarge 3)
+
+-- an input that is too large, by the limit that it passes: 1 for bytes, 2 for lines, 3 for sent bytes
 abbrev pub IsTooLarge : List ℕ → List ℕ → ℕ → Type 0
-IsTooLarge input text kind = ((kind ≡ 1) × HasTooManyBytes input text) ⊎ ((kind ≡ 2) × HasTooManyLines input text)
+IsTooLarge input text kind = ((kind ≡ 1) × HasTooManyBytes input text) ⊎ (((kind ≡ 2) × HasTooManyLines input text) ⊎ ((kind ≡ 3) × SendsTooManyBytes input text))
 
 -- the answer to an input: its status, with its text
 abbrev pub IsAnswer : List ℕ → List ℕ → Status → Type 0
@@ -82,6 +99,45 @@ IsTold Done = Unit {0}
 IsTold (BadSchedule line cause) = Unit {0}
 IsTold (TooLarge kind) = Unit {0}
 IsTold _ = ⊥
+
+-- ---- Drawn schedules
+
+-- the summary of the run of a drawn schedule
+pub record IsSummary (seed n steps : ℕ) (text : List ℕ) : Type 0 where
+  pub schedule : Schedule
+  pub run : Run
+  pub drawn : IsDrawn seed n steps schedule run
+  pub runs : Runs schedule run
+  pub summed : text ≡ summary run seed
+
+-- a drawn schedule whose run sends too many bytes, and the line that tells it
+pub record DrawsTooManyBytes (seed n steps : ℕ) (text : List ℕ) : Type 0 where
+  pub sends : IsDrawnPast seed n steps
+  pub told : text ≡ refusal (TooLarge 3)
+
+-- the answer to a seed, a count of replicas and a count of lines: its status, with its text
+abbrev pub IsDrawnAnswer : ℕ → ℕ → ℕ → List ℕ → Status → Type 0
+IsDrawnAnswer seed n steps text Done = IsSummary seed n steps text
+IsDrawnAnswer seed n steps text (TooLarge kind) = (kind ≡ 3) × DrawsTooManyBytes seed n steps text
+IsDrawnAnswer seed n steps text _ = ⊥
+
+-- they were answered so: what was held is followed by the text of the answer
+abbrev pub AnswersDrawn : ℕ → ℕ → ℕ → Option (List ℕ) → Option (List ℕ) → Status → Type 0
+AnswersDrawn seed n steps held held_after status = (text : List ℕ) × (IsDrawnAnswer seed n steps text status × Appends held held_after text)
+
+-- what was held is followed by a beginning of the text of an answer to them
+abbrev pub BeginsDrawn : ℕ → ℕ → ℕ → Option (List ℕ) → Option (List ℕ) → Type 0
+BeginsDrawn seed n steps held held_after = (status : Status) × ((text : List ℕ) × (IsDrawnAnswer seed n steps text status × ((count : ℕ) × Appends held held_after (take count text))))
+
+-- the statuses that they can be answered with
+abbrev pub IsDrawnStatus : Status → Type 0
+IsDrawnStatus Done = Unit {0}
+IsDrawnStatus (TooLarge kind) = Unit {0}
+IsDrawnStatus WriteFault = Unit {0}
+IsDrawnStatus NoMemory = Unit {0}
+IsDrawnStatus _ = ⊥
+
+-- ---- Words that are no command
 
 -- the statuses where the words are no command
 abbrev pub IsUsageStatus : Status → Type 0

@@ -1,17 +1,17 @@
 //! What an input is answered.
 
-ghost use Rattle.std.specs.Prelude.{◌≡◌, ℕ, List, true, false, IfOk};
-ghost use Rattle.std.specs.List.{AllPass};
+ghost use Rattle.std.specs.Prelude.{◌≡◌, ◌≤◌, ℕ, List, true, false, IfOk};
 ghost use Rattle.jp_types.specs.declared.status.Status.TheVariants.{Done, BadSchedule, TooLarge};
-ghost use Rattle.cluster.specs.Forms.{is_line_built};
-ghost use Rattle.cluster.specs.Heads.{IsHead};
+ghost use Rattle.cluster.specs.Fitting.{IsFit};
 ghost use Rattle.cluster.specs.Schedule.{is_too_long};
-ghost use Rattle.jpaxos.specs.Answers.{IsAnswer, IsShown};
+ghost use Rattle.jpaxos.specs.Answers.{IsAnswer, IsDrawnAnswer, IsRunAnswer};
 ghost use Rattle.jpaxos.specs.Words as words;
 
+use cluster::generator::generate_run;
 use cluster::schedule::{Schedule, ScheduleFault, read_schedule};
 use cluster::show_parts::{push_byte, push_named, push_text};
-use cluster::stepper::run_schedule;
+use cluster::stepper::{RunFault, run_schedule};
+use cluster::summary::summary;
 use cluster::text::show;
 use jp_types::cause::Cause;
 use jp_types::memory::NoMemory;
@@ -39,7 +39,7 @@ pub fn usage(alloc: Global) -> Result<Octets, NoMemory>
     Ok(Octets::from_vec(text))
 }
 
-/// The line that tells which limit an input passes: 1 for bytes, 2 for lines.
+/// The line that tells which limit is passed: 1 for bytes, 2 for lines, 3 for sent bytes.
 fn too_large(alloc: Global, kind: u8) -> Result<Answer, NoMemory>
     ensures status { IfOk result (λ answer. answer.status ≡ TooLarge kind) }
     ensures text { IfOk result (λ answer. answer.text ≡ words.refusal (TooLarge kind)) }
@@ -78,20 +78,21 @@ fn bad_schedule(alloc: Global, line: u64, cause: Cause) -> Result<Answer, NoMemo
 
 /// The answer to an input that spells a schedule: the text of its run.
 fn run_text(alloc: Global, schedule: &Schedule) -> Result<Answer, NoMemory>
-    requires head { IsHead schedule.now.head }
-    requires lines { AllPass is_line_built schedule.now.lines }
-    ensures status { IfOk result (λ answer. answer.status ≡ Done) }
-    ensures text { IfOk result (λ answer. IsShown schedule.now answer.text) }
+    requires { IsFit schedule.now }
+    ensures { IfOk result (λ answer. IsRunAnswer schedule.now answer.text answer.status) }
 {
-    let run = run_schedule(alloc, schedule)?;
-    Ok(Answer {
-        status: Status::Done,
-        text: show(alloc, &run)?,
-    })
+    match run_schedule(alloc, schedule) {
+        Ok(run) => Ok(Answer {
+            status: Status::Done,
+            text: show(alloc, &run)?,
+        }),
+        Err(RunFault::TooLarge) => too_large(alloc, 3),
+        Err(RunFault::NoMemory) => Err(NoMemory),
+    }
 }
 
 /// The answer to an input within the limit of bytes.
-#[tactic(auto, using(cluster::proofs::BuiltLines::lines_built, cluster::proofs::BuiltLines::head_fits))]
+#[tactic(auto, using(crate::proofs::Answering::run_answers))]
 pub fn answer_to(alloc: Global, input: &[u8]) -> Result<Answer, NoMemory>
     requires { is_too_long input.now ≡ false }
     ensures { IfOk result (λ answer. IsAnswer input.now answer.text answer.status) }
@@ -101,5 +102,21 @@ pub fn answer_to(alloc: Global, input: &[u8]) -> Result<Answer, NoMemory>
         Err(ScheduleFault::Bad { line, cause }) => bad_schedule(alloc, line, cause),
         Err(ScheduleFault::TooLarge) => too_large(alloc, 2),
         Err(ScheduleFault::NoMemory) => Err(NoMemory),
+    }
+}
+
+/// The answer to a seed, a count of replicas and a count of lines: the summary of the run of the schedule that they draw.
+pub fn answer_drawn(alloc: Global, seed: u64, n: u8, steps: u32) -> Result<Answer, NoMemory>
+    requires some { 3 ≤ n }
+    requires few { n ≤ 9 }
+    ensures { IfOk result (λ answer. IsDrawnAnswer seed n steps answer.text answer.status) }
+{
+    match generate_run(alloc, seed, n, steps) {
+        Ok((_, run)) => Ok(Answer {
+            status: Status::Done,
+            text: summary(alloc, &run, seed)?,
+        }),
+        Err(RunFault::TooLarge) => too_large(alloc, 3),
+        Err(RunFault::NoMemory) => Err(NoMemory),
     }
 }

@@ -1,7 +1,9 @@
-//! The program `jpaxos`: reads a schedule from standard input, and writes the text of its run to standard output.
+//! The program `jpaxos`: runs a cluster by the schedule on standard input, or by one that is drawn, and writes the text or
+//! the summary of the run to standard output.
 #![tactic(auto)]
 
 mod answer;
+mod command;
 mod input;
 mod top;
 

@@ -1,13 +1,14 @@
 //! The calls that the program makes.
 
-ghost use Rattle.std.specs.Prelude.{◌≡◌, ◌≢◌, ◌+◌, ℕ, map, take, string_bytes};
+ghost use Rattle.std.specs.Prelude.{◌≡◌, ◌≢◌, ◌≤◌, ◌+◌, ℕ, map, take, string_bytes};
 ghost use Rattle.std.specs.Io.KnownBytes.{Appends, IsAtEnd};
 ghost use Rattle.jp_types.specs.Faults.{Rose};
-ghost use Rattle.jpaxos.specs.Answers.{Answers, BeginsAnswer, IsClusterStatus, IsTold, IsUsageStatus};
+ghost use Rattle.jpaxos.specs.Answers.{Answers, AnswersDrawn, BeginsAnswer, BeginsDrawn, IsClusterStatus, IsDrawnStatus, IsTold, IsUsageStatus};
 ghost use Rattle.jpaxos.specs.Taking.{TakesAtMost};
-ghost use Rattle.jpaxos.specs.Words.{IsCluster, is_cluster, usage_line};
+ghost use Rattle.jpaxos.specs.Words.{IsCluster, IsGen, IsNoCommand, usage_line};
 
-use crate::answer::{Answer, answer_to, too_many_bytes, usage};
+use crate::answer::{Answer, answer_drawn, answer_to, too_many_bytes, usage};
+use crate::command::{Command, command_of};
 use crate::input::{INPUT_LIMIT, Unread, read_all};
 use jp_types::sink::{Sink, write_all};
 use jp_types::source::Source;
@@ -26,8 +27,7 @@ fn tell<K: Sink>(sink: &mut K, answer: &Answer) -> Status
     }
 }
 
-/// Reads a schedule from the source, runs it, and writes the text of its run. The text is proved to answer the
-/// schedule's lines, in order; that its words, steps and last states are those of the definitions is not proved yet.
+/// Reads a schedule from the source, runs it, and writes the text of its run.
 pub fn run_cluster<S: Source, K: Sink>(alloc: Global, source: &mut S, sink: &mut K) -> Status
     ensures status { IsClusterStatus result }
 
@@ -61,13 +61,21 @@ pub fn run_cluster<S: Source, K: Sink>(alloc: Global, source: &mut S, sink: &mut
     }
 }
 
-/// Whether the words are the command `cluster`.
-fn is_cluster(words: &[String]) -> bool
-    ensures { result ≡ is_cluster (map string_bytes words.now) }
+/// Draws a schedule of `n` replicas by the seed, with so many lines between the first and the last, runs it, and writes
+/// the summary of its run.
+pub fn run_gen<K: Sink>(alloc: Global, seed: u64, n: u8, steps: u32, sink: &mut K) -> Status
+    requires some { 3 ≤ n }
+    requires few { n ≤ 9 }
+    requires steps { steps ≤ 99998 }
+    ensures status { IsDrawnStatus result }
+    ensures told { IsTold result → AnswersDrawn seed n steps (K.held sink.old) (K.held sink.new) result }
+    ensures write { result ≡ Status.WriteFault → Rose (K.faults sink.old) (K.faults sink.new) }
+    ensures begun { result ≡ Status.WriteFault → BeginsDrawn seed n steps (K.held sink.old) (K.held sink.new) }
+    ensures memory { result ≡ Status.NoMemory → K.held sink.new ≡ K.held sink.old }
 {
-    match words {
-        [word] => word.as_bytes() == b"cluster".as_slice(),
-        _ => false,
+    match answer_drawn(alloc, seed, n, steps) {
+        Ok(answer) => tell(sink, &answer),
+        Err(_) => Status::NoMemory,
     }
 }
 
@@ -96,32 +104,42 @@ pub fn jpaxos_top<S: Source, K: Sink>(
     sink: &mut K,
 ) -> Status
     // Words that are no command are answered Usage, with the usage line.
-    ensures usage { result ≡ Status.Usage → ¬ IsCluster (map string_bytes words.now) }
-    ensures usage_status { ¬ IsCluster (map string_bytes words.now) → IsUsageStatus result }
+    ensures usage { result ≡ Status.Usage → IsNoCommand (map string_bytes words.now) }
+    ensures usage_status { IsNoCommand (map string_bytes words.now) → IsUsageStatus result }
     ensures usage_told { result ≡ Status.Usage → Appends (K.held sink.old) (K.held sink.new) usage_line }
-    ensures usage_reads { ¬ IsCluster (map string_bytes words.now) → S.left source.new ≡ S.left source.old }
-    ensures usage_begun { result ≡ Status.WriteFault → ¬ IsCluster (map string_bytes words.now) → (count : ℕ) × Appends (K.held sink.old) (K.held sink.new) (take count usage_line) }
+    ensures usage_reads { IsNoCommand (map string_bytes words.now) → S.left source.new ≡ S.left source.old }
+    ensures usage_begun { result ≡ Status.WriteFault → IsNoCommand (map string_bytes words.now) → (count : ℕ) × Appends (K.held sink.old) (K.held sink.new) (take count usage_line) }
 
     // The word `cluster` is answered as `run_cluster` answers.
     ensures cluster_status { IsCluster (map string_bytes words.now) → IsClusterStatus result }
-    ensures cluster_told { IsTold result → Answers (S.left source.old) (K.held sink.old) (K.held sink.new) result }
-    ensures cluster_end { IsTold result → result ≢ Status.TooLarge 1 → IsAtEnd (S.left source.new) }
+    ensures cluster_told { IsTold result → IsCluster (map string_bytes words.now) → Answers (S.left source.old) (K.held sink.old) (K.held sink.new) result }
+    ensures cluster_end { IsTold result → result ≢ Status.TooLarge 1 → IsCluster (map string_bytes words.now) → IsAtEnd (S.left source.new) }
     ensures cluster_taken { IsCluster (map string_bytes words.now) → TakesAtMost (INPUT_LIMIT + 1) (S.left source.old) (S.left source.new) }
     ensures cluster_begun { result ≡ Status.WriteFault → IsCluster (map string_bytes words.now) → BeginsAnswer (S.left source.old) (K.held sink.old) (K.held sink.new) }
+
+    // The word `gen` with its operands is answered as `run_gen` answers, and nothing is read.
+    ensures gen_status { (seed n steps : ℕ) → IsGen (map string_bytes words.now) seed n steps → IsDrawnStatus result }
+    ensures gen_told { (seed n steps : ℕ) → IsTold result → IsGen (map string_bytes words.now) seed n steps → AnswersDrawn seed n steps (K.held sink.old) (K.held sink.new) result }
+    ensures gen_reads { (seed n steps : ℕ) → IsGen (map string_bytes words.now) seed n steps → S.left source.new ≡ S.left source.old }
+    ensures gen_begun { (seed n steps : ℕ) → result ≡ Status.WriteFault → IsGen (map string_bytes words.now) seed n steps → BeginsDrawn seed n steps (K.held sink.old) (K.held sink.new) }
 
     ensures read { result ≡ Status.ReadFault → Rose (S.faults source.old) (S.faults source.new) }
     ensures unread { result ≡ Status.ReadFault → K.held sink.new ≡ K.held sink.old }
     ensures write { result ≡ Status.WriteFault → Rose (K.faults sink.old) (K.faults sink.new) }
     ensures memory { result ≡ Status.NoMemory → K.held sink.new ≡ K.held sink.old }
 {
-    if is_cluster(words) {
-        run_cluster(alloc, source, sink)
-    } else {
-        tell_usage(alloc, sink)
+    match command_of(words) {
+        Some(Command::Cluster) => run_cluster(alloc, source, sink),
+        Some(Command::Gen { seed, n, steps }) => run_gen(alloc, seed, n, steps, sink),
+        None => tell_usage(alloc, sink),
     }
 }
 
 #[cfg(test)]
-mod schedules;
+mod sent_bytes;
+#[cfg(test)]
+mod snapshot_run;
 #[cfg(test)]
 mod tests;
+#[cfg(test)]
+mod texts;

@@ -1,17 +1,16 @@
 -- The answers to a step.
-use Rattle.std.specs.Prelude.{Bool, true, false}
-use Rattle.replica_node.specs.declared.item.Stepped.{Stepped}
-use Rattle.replica_node.specs.declared.item.Stepped.TheVariants.{Done, Empty, Full, Down, NoMemory}
+use Rattle.protocol_core.specs.declared.protocol.TurnFault.{TurnFault}
+use Rattle.replica_node.specs.declared.stage.Stepped.{Stepped}
+use Rattle.replica_node.specs.declared.stages.Taken.{Taken}
 
--- whether the answer is that an earlier step failed
-abbrev pub is_down : Stepped → Bool
-is_down Down = true
-is_down _ = false
+-- the answer to a step that does not fail
+abbrev pub answer_of : Taken → Stepped
+answer_of (Taken.Done acts) = Stepped.Done acts
+answer_of Taken.Empty = Stepped.Empty
+answer_of Taken.Full = Stepped.Full
 
--- whether the replica is up after the step that has this answer
-abbrev pub is_up : Stepped → Bool
-is_up (Done acts) = true
-is_up Empty = true
-is_up Full = true
-is_up Down = false
-is_up NoMemory = false
+-- the answer to a step that fails
+abbrev pub answer_to : TurnFault → Stepped
+answer_to TurnFault.NoMemory = Stepped.NoMemory
+answer_to TurnFault.StoreFault = Stepped.StoreFault
+answer_to TurnFault.Down = Stepped.Down

@@ -1,8 +1,8 @@
 -- What the lanes of a replica hold.
 use Rattle.std.specs.Prelude.{Bool, true, false}
-use Rattle.replica_node.specs.declared.item.LaneItem.{LaneItem}
-use Rattle.replica_node.specs.declared.item.Stage.{Stage}
-use Rattle.replica_node.specs.declared.item.Stage.TheVariants.{Batch, Protocol, Service, Retransmit}
+use Rattle.replica_node.specs.declared.stage.LaneItem.{LaneItem}
+use Rattle.replica_node.specs.declared.stage.Stage.{Stage}
+use Rattle.replica_node.specs.declared.stage.Stage.TheVariants.{Batch, Protocol, Service, Retransmit}
 use Rattle.replica_node.specs.declared.stages.Stages.{Stages}
 use Rattle.replica_node.specs.Lane.{is_full, with_item}
 

@@ -1,24 +1,37 @@
 //! The stages of a replica and the lanes between them.
 
-ghost use Rattle.std.specs.Prelude.{◌≡◌, not, ◌&&◌, [], IfOk};
+ghost use Rattle.std.specs.Prelude.{◌≡◌, ◌≢◌, ◌≤◌, not, ◌&&◌, false, Some, Err, IfOk, OnOk};
+ghost use Rattle.jp_types.specs.Faults.{Rose};
+ghost use Rattle.protocol_core.specs.Performing.{LoadsOneOf};
+ghost use Rattle.stable_store.specs.Disks.{LeavesOnly};
+ghost use Rattle.replica_node.specs.Beginning.{IsFresh};
+ghost use Rattle.replica_node.specs.Keeping.{Keeps, stable_after};
 ghost use Rattle.replica_node.specs.Lanes.{is_full_at, is_kind_of, after_put};
+ghost use Rattle.replica_node.specs.Steps.{StepsAt};
 
-use crate::batcher::Batcher;
-use crate::config::Config;
-use crate::item::{Act, Decision, Fed, Item, LaneItem, Stage};
-use crate::lane::{Lane, PLACES};
+use crate::lane::Lane;
 use crate::last::Last;
-use crate::protocol::Protocol;
-use crate::service::Service;
+use crate::stage::{LaneItem, Stage};
+use batcher::batcher::Batcher;
+use batcher::fed::Fed;
 use jp_types::listed::Listed;
 use jp_types::memory::NoMemory;
+use jp_types::message::ReplicaId;
+use protocol_core::act::Act;
+use protocol_core::item::Item;
+use protocol_core::protocol::{Protocol, TurnFault};
+use retransmitter::slots::Slots;
+use service_manager::decision::Decision;
+use service_manager::service::Service;
+use stable_store::disk::Disk;
 use std::alloc::Global;
 
-/// What became of a step.
+/// What became of a step that did not fail.
 #[derive(Debug, Drop)]
 pub enum Taken {
+    /// What the stage did, in order.
     Done(Listed<Act>),
-    /// The lane of the stage is empty.
+    /// The lane of the stage is empty, or for the Retransmitter no message is repeated.
     Empty,
     /// The step would put an item in a lane that is full. Nothing was taken.
     Full,
@@ -27,34 +40,40 @@ pub enum Taken {
 /// The stages of a replica, and the lanes between them.
 #[derive(Drop)]
 pub struct Stages {
-    pub protocol: Protocol,
+    /// Which replica this is.
+    pub me: ReplicaId,
+    pub protocol: Protocol<Slots>,
     pub batcher: Batcher,
     pub service: Service,
+    /// The slot from which on the Retransmitter looks for a message to repeat.
+    pub cursor: u16,
+    /// What the Batcher takes.
     pub requests: Lane<Fed>,
+    /// What the Protocol stage takes.
     pub dispatcher: Lane<Item>,
+    /// What the Service stage takes.
     pub decisions: Lane<Decision>,
 }
 
 impl Stages {
     /// The stages round a Protocol stage that began.
-    pub fn new(alloc: Global, config: &Config, protocol: Protocol) -> Result<Stages, NoMemory>
+    pub fn new(alloc: Global, me: ReplicaId, protocol: Protocol<Slots>) -> Result<Stages, NoMemory>
         ensures protocol { IfOk result (λ made. made.protocol ≡ protocol) }
-        ensures batcher { IfOk result (λ made. made.batcher ≡ []) }
-        ensures requests { IfOk result (λ made. made.requests ≡ []) }
-        ensures dispatcher { IfOk result (λ made. made.dispatcher ≡ []) }
-        ensures decisions { IfOk result (λ made. made.decisions ≡ []) }
+        ensures fresh { IfOk result (λ made. IsFresh me made) }
     {
         Ok(Stages {
+            me,
             protocol,
             batcher: Batcher::new(alloc),
-            service: Service::new(alloc, config.me),
+            service: Service::new(alloc),
+            cursor: 0,
             requests: Lane::new(alloc)?,
             dispatcher: Lane::new(alloc)?,
             decisions: Lane::new(alloc)?,
         })
     }
 
-    fn alloc(&self) -> Global {
+    pub(crate) fn alloc(&self) -> Global {
         *self.requests.allocator()
     }
 
@@ -83,97 +102,6 @@ impl Stages {
         }
     }
 
-    /// The Batcher takes the front item. A batch that this closes is put in the dispatcher lane.
-    fn batch(&mut self, fed: Fed) -> Result<Taken, NoMemory> {
-        if let Some(batch) = self.batcher.turn(fed)? {
-            let _put = self.dispatcher.put(Item::Batch(batch));
-        }
-        Ok(Taken::Done(Listed::empty(self.alloc())))
-    }
-
-    /// Whether the front item closes a batch for which the dispatcher lane has no place.
-    fn is_batch_blocked(&self) -> bool {
-        match self.requests.front() {
-            Some(fed) => self.batcher.closes(fed) && self.dispatcher.is_full(),
-            None => false,
-        }
-    }
-
-    fn step_batch(&mut self) -> Result<Taken, NoMemory> {
-        if self.is_batch_blocked() {
-            return Ok(Taken::Full);
-        }
-        match self.requests.take() {
-            Some(fed) => self.batch(fed),
-            None => Ok(Taken::Empty),
-        }
-    }
-
-    /// The decisions among acts are put in the decision lane, and the others are kept.
-    fn hand_on(&mut self, acts: Listed<Act>) -> Result<Listed<Act>, NoMemory> {
-        let mut kept = Listed::empty(self.alloc());
-        for act in acts.into_vec() {
-            match act {
-                Act::Hand(decision) => {
-                    let _put = self.decisions.put(decision);
-                }
-                act => kept.push(act)?,
-            }
-        }
-        Ok(kept)
-    }
-
-    /// The Protocol stage takes an item.
-    fn take_item(&mut self, item: Item) -> Result<Taken, NoMemory> {
-        let room = PLACES - self.decisions.len();
-        match self.protocol.turn(item, room) {
-            Ok(acts) => Ok(Taken::Done(self.hand_on(acts)?)),
-            Err(_) => Err(NoMemory),
-        }
-    }
-
-    fn step_protocol(&mut self) -> Result<Taken, NoMemory> {
-        match self.dispatcher.take() {
-            Some(item) => self.take_item(item),
-            None => Ok(Taken::Empty),
-        }
-    }
-
-    /// A snapshot of the service is put in the dispatcher lane, where one is taken.
-    fn snapshot_if(&mut self, snaps: bool) -> Result<(), NoMemory> {
-        if snaps {
-            let _put = self.dispatcher.put(self.service.snapshot()?);
-        }
-        Ok(())
-    }
-
-    /// The Service stage takes a decision.
-    fn serve(&mut self, decision: Decision) -> Result<Taken, NoMemory> {
-        let mut acts = Listed::empty(self.alloc());
-        let snaps = self.service.makes_snapshot(&decision);
-        self.service.serve(decision, &mut acts)?;
-        self.snapshot_if(snaps)?;
-        Ok(Taken::Done(acts))
-    }
-
-    /// Whether the front decision makes a snapshot for which the dispatcher lane has no place.
-    fn is_service_blocked(&self) -> bool {
-        match self.decisions.front() {
-            Some(decision) => self.service.makes_snapshot(decision) && self.dispatcher.is_full(),
-            None => false,
-        }
-    }
-
-    fn step_service(&mut self) -> Result<Taken, NoMemory> {
-        if self.is_service_blocked() {
-            return Ok(Taken::Full);
-        }
-        match self.decisions.take() {
-            Some(decision) => self.serve(decision),
-            None => Ok(Taken::Empty),
-        }
-    }
-
     /// What is left at the end of a run.
     pub fn finish(self) -> Last
         ensures { result ≡ record { phase = self.protocol.life.phase; view = self.protocol.life.view; state = self.service } }
@@ -185,13 +113,26 @@ impl Stages {
         }
     }
 
-    /// One step of a stage.
-    pub fn step(&mut self, stage: Stage) -> Result<Taken, NoMemory> {
+    /// One step of a stage. Only the Protocol stage touches the disk.
+    pub fn step<D: Disk>(&mut self, stage: Stage, disk: &mut D) -> Result<Taken, TurnFault>
+        requires up { self.old.protocol.down ≡ false }
+        requires kept { Keeps self.old.protocol (D.size disk.old) (D.seen disk.old) (D.may_leave disk.old) }
+        ensures taken { IfOk result (λ taken. StepsAt stage self.old taken self.new) }
+        ensures up { OnOk result (self.new.protocol.down ≡ false) }
+        ensures kept { OnOk result (Keeps self.new.protocol (D.size disk.new) (D.seen disk.new) (D.may_leave disk.new)) }
+        ensures any_moment { LeavesOnly D.moment D.left_since disk.old disk.new (LoadsOneOf (Some self.old.protocol.life.stable) (Some (stable_after stage self.old))) }
+        ensures not_down { result ≢ Err TurnFault.Down }
+        ensures store { result ≡ Err TurnFault.StoreFault → stage ≡ Stage.Protocol }
+        ensures fault { result ≡ Err TurnFault.StoreFault → Rose (D.faults disk.old) (D.faults disk.new) }
+        ensures later { D.faults disk.old ≤ D.faults disk.new }
+        ensures size { D.size disk.new ≡ D.size disk.old }
+        ensures untouched { stage ≢ Stage.Protocol → disk.new ≡ disk.old }
+    {
         match stage {
-            Stage::Batch => self.step_batch(),
-            Stage::Protocol => self.step_protocol(),
-            Stage::Service => self.step_service(),
-            Stage::Retransmit => Ok(Taken::Empty),
+            Stage::Batch => Ok(self.step_batch()?),
+            Stage::Protocol => self.step_protocol(disk),
+            Stage::Service => Ok(self.step_service()?),
+            Stage::Retransmit => Ok(self.step_retransmit()?),
         }
     }
 }

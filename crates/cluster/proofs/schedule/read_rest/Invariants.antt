@@ -1,13 +1,12 @@
 use Rattle.std.proofs.Common.{◌≡◌, ◌+◌, ◌≤◌, length}
 use Rattle.cluster.specs.Schedule.{lines_of, rest_of}
-use Rattle.cluster.specs.Forms.{built}
 use Rattle.cluster.specs.Reading.{with_lines}
 use Rattle.cluster.proofs.schedule.read_rest.Given as goal
 
 abbrev pub invariant-lines : goal.invariant-lines
 invariant-lines l =
     record {
-      so_far : with_lines l.n l.line l.lines l.rest ≡ rest_of built l.n 2 (lines_of l.input);
+      so_far : with_lines l.n l.line l.lines l.rest ≡ rest_of l.n 2 (lines_of l.input);
       within : l.line + length l.rest ≤ length l.input + 2;
     }
 

@@ -1,0 +1,28 @@
+-- The answer to a schedule is one to the input that spells it.
+use Rattle.std.proofs.Common.{◌≡◌, ℕ, true, false, List, Ok, inl, inr}
+use Rattle.jp_types.specs.declared.cause.Cause.{Cause}
+use Rattle.jp_types.specs.declared.status.Status.{Status}
+use Rattle.jp_types.specs.declared.status.Status.TheVariants as status
+use Rattle.cluster.specs.declared.schedule.Schedule.{Schedule}
+use Rattle.cluster.specs.Schedule.{read_schedule}
+use Rattle.jpaxos.specs.Answers.{Fits, IsRunAnswer, IsAnswer}
+
+pub run_answers : (input text : List ℕ) (s : Schedule) (told : Status) → Fits input → read_schedule input ≡ Ok s → IsRunAnswer s text told → IsAnswer input text told
+run_answers input text s status.Done fits reads shown = record { fits = fits; schedule = s; reads = reads; shown = shown }
+run_answers input text s (status.TooLarge kind) fits reads h =
+    inr (inr (h.0, record { fits = fits; schedule = s; reads = reads; sends = h.1.0; told = h.1.1 }))
+run_answers input text s status.Usage fits reads h = absurd h
+run_answers input text s (status.BadSchedule line cause) fits reads h = absurd h
+run_answers input text s status.ReadFault fits reads h = absurd h
+run_answers input text s status.WriteFault fits reads h = absurd h
+run_answers input text s status.StoreFault fits reads h = absurd h
+run_answers input text s status.NoMemory fits reads h = absurd h
+run_answers input text s status.OutsideFault fits reads h = absurd h
+run_answers input text s (status.BadConfig line cause) fits reads h = absurd h
+run_answers input text s (status.NoAnswer number) fits reads h = absurd h
+run_answers input text s (status.Damaged size) fits reads h = absurd h
+run_answers input text s (status.Spent number) fits reads h = absurd h
+run_answers input text s (status.OtherCluster number) fits reads h = absurd h
+run_answers input text s (status.LogFull size) fits reads h = absurd h
+run_answers input text s (status.Disagrees what) fits reads h = absurd h
+run_answers input text s status.TraceFault fits reads h = absurd h
