@@ -1,0 +1,75 @@
+#!/bin/sh
+# Times the built program on drawn schedules and on one that executes many requests, and prints for each how many lines a
+# second it ran and the most memory that it took. The bounds are printed beside, and nothing fails on them.
+root=$(CDPATH='' cd -- "$(dirname -- "$0")/.." && pwd) || exit 1
+program=${1:-$root/crates/jpaxos/out/jpaxos}
+[ -x "$program" ] || { echo "bench/cluster.sh: no program at $program (bin/jpaxos builds it)" >&2; exit 1; }
+exec python3 - "$program" <<'PYTHON'
+import os, sys, tempfile, time
+
+PROGRAM = sys.argv[1]
+LINES = 100_000
+# requests that go into one batch, and after how many executed instances each replica takes a snapshot
+BATCH, SNAPSHOT = 5, 256
+
+
+def many_requests():
+    """A schedule of so many lines, in which three replicas execute each request: a leader that is Prepared proposes batch
+    after batch, and the three learn and execute each one."""
+    lines = ["cluster 3 viewss 8", "deliver 1 0", "protocol 1", "deliver 0 2", "protocol 0"]
+    sent, instance = 3, 0
+    while True:
+        turn = []
+        for client in range(BATCH):
+            key, value = f"{(instance * BATCH + client) % 1000:04x}", f"{instance % 65536:04x}"
+            turn += [f"request 0 {client} {instance + 1} put {key} {value}", "batch 0"]
+        # the tick closes the batch; the Protocol stage takes the tick and sends two messages, and then the batch
+        turn += ["tick 0", "batch 0", "protocol 0", "protocol 0"]
+        to_1, to_2, accept_0 = sent + 2, sent + 3, sent + 4
+        turn += [f"deliver 1 {to_1}", "protocol 1", "service 1", f"deliver 0 {accept_0}", "protocol 0", "service 0"]
+        turn += [f"deliver 2 {to_2}", "protocol 2", "service 2"]
+        sent, instance = sent + 8, instance + 1
+        if instance % SNAPSHOT == 0:
+            turn += ["protocol 0", "protocol 1", "protocol 2"]
+        if len(lines) + len(turn) > LINES - 1:
+            break
+        lines += turn
+    lines += ["service 0"] * (LINES - 1 - len(lines)) + ["end"]
+    return "".join(line + "\n" for line in lines).encode()
+
+
+def run(words, given):
+    """The seconds and the most memory, in megabytes, of one run, and what it wrote."""
+    with tempfile.TemporaryFile() as source, tempfile.TemporaryFile() as sink:
+        source.write(given)
+        source.seek(0)
+        begun = time.perf_counter()
+        child = os.posix_spawn(
+            PROGRAM, [PROGRAM, *words], os.environ,
+            file_actions=[(os.POSIX_SPAWN_DUP2, source.fileno(), 0), (os.POSIX_SPAWN_DUP2, sink.fileno(), 1)],
+        )
+        _, status, usage = os.wait4(child, 0)
+        seconds = time.perf_counter() - begun
+        if os.waitstatus_to_exitcode(status) != 0:
+            sys.exit(f"bench/cluster.sh: {' '.join(words)} ended with status {os.waitstatus_to_exitcode(status)}")
+        sink.seek(0)
+        return seconds, usage.ru_maxrss / 1024, sink.read()
+
+
+def show(name, lines, seconds, memory, rest=""):
+    print(f"{name:28} {lines:7} lines {seconds:8.3f} s {lines / seconds:12,.0f} lines/s {memory:8.1f} MB{rest}", flush=True)
+
+
+times = {}
+for seed, n, steps in [(7, 5, 20_000), (7, 5, 99_998), (8, 9, 99_998)]:
+    seconds, memory, _ = run(["gen", str(seed), str(n), str(steps)], b"")
+    times[(seed, n, steps)] = seconds
+    bound = "   (bounds: 2 s, 400 MB)" if (seed, n, steps) == (7, 5, 99_998) else ""
+    show(f"gen {seed} {n} {steps}", steps + 2, seconds, memory, bound)
+print(f"gen 7 5: five times the steps take {times[(7, 5, 99_998)] / times[(7, 5, 20_000)]:.2f} times as long   (bound: 7)")
+
+schedule = many_requests()
+seconds, memory, text = run(["cluster"], schedule)
+show("cluster, many requests", LINES, seconds, memory)
+print(f"requests executed: {text.count(b'+ok')}, in {text.count(b'; execute ')} batches")
+PYTHON
