@@ -193,7 +193,7 @@ impl Replica {
 #[cfg(test)]
 mod lane_tests;
 #[cfg(test)]
-mod place;
+mod machine;
 #[cfg(test)]
 mod recovery_tests;
 #[cfg(test)]

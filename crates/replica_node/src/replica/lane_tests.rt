@@ -1,7 +1,7 @@
 //! Lanes that are full, and what waits for them.
 
 use super::*;
-use crate::replica::place::Place;
+use crate::replica::machine::Machine;
 use batcher::fed::Fed;
 use jp_types::batch::Batch;
 use jp_types::command::{Command, Request};
@@ -20,30 +20,16 @@ const PROTOCOL: Stage = Stage::Protocol;
 const SERVICE: Stage = Stage::Service;
 
 /// Replica 1 of three.
-fn started(alloc: Global) -> Result<Place<MemoryDisk>, Fail> {
+fn started(alloc: Global) -> Result<Machine<MemoryDisk>, Fail> {
     let config = Config {
         n: 3,
         me: 1,
         mode: Mode::ViewSs,
         window: 4,
     };
-    let mut place = Place::new(MemoryDisk::new(vec![in alloc; 0; 18]?));
-    let _acts = place.start(alloc, &config)?;
-    Ok(place)
-}
-
-/// Whether a replica is running whose lane is full.
-fn is_full(place: &Place<MemoryDisk>, stage: Stage) -> bool {
-    match &place.replica {
-        Some(replica) => replica.full(stage),
-        None => false,
-    }
-}
-
-/// How many instances the running replica executed.
-fn executed(place: &Place<MemoryDisk>) -> Option<u64> {
-    let replica = place.replica.as_ref()?;
-    Some(replica.state().executed())
+    let disk = MemoryDisk::new(vec![in alloc; 0; 18]?);
+    let (machine, _acts) = Machine::start(alloc, &config, disk)?;
+    Ok(machine)
 }
 
 fn tick() -> LaneItem {
@@ -78,25 +64,26 @@ fn told(stepped: Stepped) -> Result<usize, &'static str> {
 
 #[test]
 fn lanes_hold_so_many(rt: HostRuntime) -> Result<(), Fail> {
-    let mut place = started(rt.alloc())?;
+    let mut machine = started(rt.alloc())?;
     for _ in 0..64 {
-        assert!(rt; !is_full(&place, PROTOCOL));
-        assert_eq!(rt; place.put(PROTOCOL, tick()), Some(true));
+        assert!(rt; !machine.replica().full(PROTOCOL));
+        assert!(rt; machine.put(PROTOCOL, tick()));
     }
-    assert!(rt; is_full(&place, PROTOCOL) && !is_full(&place, BATCH) && !is_full(&place, SERVICE));
-    assert_eq!(rt; place.put(PROTOCOL, tick()), Some(false));
-    let Some(replica) = place.replica.take() else {
-        return Err(Fail::new("no replica is running"));
-    };
-    assert_eq!(rt; replica.next(), None);
-    let last = replica.finish();
+    assert!(rt;
+        machine.replica().full(PROTOCOL)
+            && !machine.replica().full(BATCH)
+            && !machine.replica().full(SERVICE)
+    );
+    assert!(rt; !machine.put(PROTOCOL, tick()));
+    assert_eq!(rt; machine.replica().next(), None);
+    let last = machine.finish();
     assert!(rt; last.view == 0 && last.phase == Phase::Working && last.state.executed() == 0);
     Ok(())
 }
 
 #[test]
 fn a_closed_batch_waits_for_a_place(rt: HostRuntime) -> Result<(), Fail> {
-    let mut place = started(rt.alloc())?;
+    let mut machine = started(rt.alloc())?;
     let request = Request {
         client: 1,
         number: 1,
@@ -104,13 +91,10 @@ fn a_closed_batch_waits_for_a_place(rt: HostRuntime) -> Result<(), Fail> {
             key: Octets::from_slice(rt.alloc(), b"a")?,
         },
     };
-    assert_eq!(rt;
-        place.put(BATCH, LaneItem::Fed(Fed::Request(request))),
-        Some(true)
-    );
-    assert_eq!(rt; place.put(BATCH, LaneItem::Fed(Fed::Tick)), Some(true));
+    assert!(rt; machine.put(BATCH, LaneItem::Fed(Fed::Request(request))));
+    assert!(rt; machine.put(BATCH, LaneItem::Fed(Fed::Tick)));
     for _ in 0..64 {
-        assert_eq!(rt; place.put(PROTOCOL, tick()), Some(true));
+        assert!(rt; machine.put(PROTOCOL, tick()));
     }
     let lines = [
         (BATCH, Ok(0)),
@@ -121,26 +105,23 @@ fn a_closed_batch_waits_for_a_place(rt: HostRuntime) -> Result<(), Fail> {
         (BATCH, Err("empty")),
     ];
     for (stage, want) in lines {
-        assert_eq!(rt; told(place.step(stage)), want);
+        assert_eq!(rt; told(machine.step(stage)), want);
     }
-    assert!(rt; is_full(&place, PROTOCOL));
+    assert!(rt; machine.replica().full(PROTOCOL));
     Ok(())
 }
 
 #[test]
 fn a_snapshot_waits_for_a_place(rt: HostRuntime) -> Result<(), Fail> {
-    let mut place = started(rt.alloc())?;
+    let mut machine = started(rt.alloc())?;
     for instance in 0..255 {
-        assert_eq!(rt;
-            place.put(SERVICE, decided(rt.alloc(), instance)),
-            Some(true)
-        );
-        assert_eq!(rt; told(place.step(SERVICE)), Ok(1));
+        assert!(rt; machine.put(SERVICE, decided(rt.alloc(), instance)));
+        assert_eq!(rt; told(machine.step(SERVICE)), Ok(1));
     }
     for _ in 0..64 {
-        assert_eq!(rt; place.put(PROTOCOL, tick()), Some(true));
+        assert!(rt; machine.put(PROTOCOL, tick()));
     }
-    assert_eq!(rt; place.put(SERVICE, decided(rt.alloc(), 255)), Some(true));
+    assert!(rt; machine.put(SERVICE, decided(rt.alloc(), 255)));
     let lines = [
         (SERVICE, Err("full")),
         (PROTOCOL, Ok(0)),
@@ -148,22 +129,22 @@ fn a_snapshot_waits_for_a_place(rt: HostRuntime) -> Result<(), Fail> {
         (SERVICE, Err("empty")),
     ];
     for (stage, want) in lines {
-        assert_eq!(rt; told(place.step(stage)), want);
+        assert_eq!(rt; told(machine.step(stage)), want);
     }
-    assert!(rt; is_full(&place, PROTOCOL));
-    assert_eq!(rt; executed(&place), Some(256));
+    assert!(rt; machine.replica().full(PROTOCOL));
+    assert_eq!(rt; machine.replica().state().executed(), 256);
     Ok(())
 }
 
 /// The leader proposes the empty batch at instance 0. With its own vote the replica learns it.
-fn learn(alloc: Global, place: &mut Place<MemoryDisk>) -> Result<usize, Fail> {
+fn learn(alloc: Global, machine: &mut Machine<MemoryDisk>) -> Result<usize, Fail> {
     let propose = Propose {
         view: 0,
         instance: 0,
         batch: Batch::empty(alloc),
     };
-    let _put = place.put(PROTOCOL, from(0, Message::Propose(propose)));
-    match told(place.step(PROTOCOL)) {
+    let _put = machine.put(PROTOCOL, from(0, Message::Propose(propose)));
+    match told(machine.step(PROTOCOL)) {
         Ok(acts) => Ok(acts),
         Err(word) => Err(Fail::new(word)),
     }
@@ -171,21 +152,21 @@ fn learn(alloc: Global, place: &mut Place<MemoryDisk>) -> Result<usize, Fail> {
 
 #[test]
 fn a_decision_waits_for_a_place(rt: HostRuntime) -> Result<(), Fail> {
-    let mut place = started(rt.alloc())?;
+    let mut machine = started(rt.alloc())?;
     for _ in 0..64 {
-        assert_eq!(rt; place.put(SERVICE, decided(rt.alloc(), 7)), Some(true));
+        assert!(rt; machine.put(SERVICE, decided(rt.alloc(), 7)));
     }
     // a vote, two messages, and that the instance is learned
-    assert_eq!(rt; learn(rt.alloc(), &mut place)?, 4);
-    assert!(rt; is_full(&place, SERVICE));
+    assert_eq!(rt; learn(rt.alloc(), &mut machine)?, 4);
+    assert!(rt; machine.replica().full(SERVICE));
     // none of these is due
     for _ in 0..64 {
-        assert_eq!(rt; told(place.step(SERVICE)), Ok(0));
+        assert_eq!(rt; told(machine.step(SERVICE)), Ok(0));
     }
-    assert_eq!(rt; told(place.step(SERVICE)), Err("empty"));
-    assert_eq!(rt; place.put(PROTOCOL, tick()), Some(true));
-    assert_eq!(rt; told(place.step(PROTOCOL)), Ok(0));
-    assert_eq!(rt; told(place.step(SERVICE)), Ok(1));
-    assert_eq!(rt; executed(&place), Some(1));
+    assert_eq!(rt; told(machine.step(SERVICE)), Err("empty"));
+    assert!(rt; machine.put(PROTOCOL, tick()));
+    assert_eq!(rt; told(machine.step(PROTOCOL)), Ok(0));
+    assert_eq!(rt; told(machine.step(SERVICE)), Ok(1));
+    assert_eq!(rt; machine.replica().state().executed(), 1);
     Ok(())
 }

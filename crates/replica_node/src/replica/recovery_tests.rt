@@ -1,7 +1,7 @@
 //! Runs in which replicas crash and begin new lives, and disks that fail.
 
 use super::*;
-use crate::replica::place::Place;
+use crate::replica::machine::Machine;
 use crate::replica::three::{Line, Three};
 use jp_types::mode::Mode;
 use protocol_core::item::Item;
@@ -181,10 +181,16 @@ fn leader_rejoins_in_the_next_view(rt: HostRuntime) -> Result<(), Fail> {
     Ok(())
 }
 
-/// A disk from whose call of this number on each fails.
-fn failing_from(alloc: Global, stop: u64) -> Result<Place<FailingDisk>, Fail> {
+/// What becomes of a start over a disk from whose call of this number on each fails.
+fn started_over(
+    alloc: Global,
+    stop: u64,
+) -> Result<Result<Machine<FailingDisk>, StartFault>, Fail> {
     let disk = FailingDisk::new(vec![in alloc; 0; 18]?, Vec::new(alloc), stop)?;
-    Ok(Place::new(disk))
+    match Machine::start(alloc, &config(), disk) {
+        Ok((machine, _acts)) => Ok(Ok(machine)),
+        Err(fault) => Ok(Err(fault)),
+    }
 }
 
 fn config() -> Config {
@@ -217,44 +223,32 @@ const STAGES: [Stage; 4] = [
 
 #[test]
 fn a_step_whose_save_fails_is_the_last(rt: HostRuntime) -> Result<(), Fail> {
-    let alloc = rt.alloc();
     // a first start makes three calls to load and five to save, and so has view 0 on the disk
     for stop in 0..8 {
-        let started = failing_from(alloc, stop)?.start(alloc, &config());
+        let started = started_over(rt.alloc(), stop)?;
         assert!(rt;
             matches!(started, Err(StartFault::StoreFault)),
             "stop at {stop}"
         );
     }
     for stop in 8..13 {
-        let mut place = failing_from(alloc, stop)?;
-        let _acts = place.start(alloc, &config())?;
-        assert_eq!(rt;
-            place.put(PROTOCOL, LaneItem::Item(Item::Suspect)),
-            Some(true)
-        );
+        let mut machine = started_over(rt.alloc(), stop)??;
+        assert!(rt; machine.put(PROTOCOL, LaneItem::Item(Item::Suspect)));
         for stage in [Stage::Batch, Stage::Service, RETRANSMIT] {
-            assert_eq!(rt; word_of(&place.step(stage)), "empty");
+            assert_eq!(rt; word_of(&machine.step(stage)), "empty");
         }
         assert_eq!(rt;
-            word_of(&place.step(PROTOCOL)),
+            word_of(&machine.step(PROTOCOL)),
             "store fault",
             "stop at {stop}"
         );
         for stage in STAGES {
-            assert_eq!(rt; word_of(&place.step(stage)), "down");
+            assert_eq!(rt; word_of(&machine.step(stage)), "down");
         }
     }
-    let mut place = failing_from(alloc, 13)?;
-    let _acts = place.start(alloc, &config())?;
-    assert_eq!(rt;
-        place.put(PROTOCOL, LaneItem::Item(Item::Suspect)),
-        Some(true)
-    );
-    assert_eq!(rt; word_of(&place.step(PROTOCOL)), "done");
-    match &place.replica {
-        Some(replica) => assert_eq!(rt; replica.view(), 1),
-        None => assert!(rt; false, "no replica is running"),
-    }
+    let mut machine = started_over(rt.alloc(), 13)??;
+    assert!(rt; machine.put(PROTOCOL, LaneItem::Item(Item::Suspect)));
+    assert_eq!(rt; word_of(&machine.step(PROTOCOL)), "done");
+    assert_eq!(rt; machine.replica().view(), 1);
     Ok(())
 }

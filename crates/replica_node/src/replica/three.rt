@@ -1,12 +1,12 @@
 //! Three replicas whose stages a test steps one by one, and the text of what they do.
 
-use crate::replica::place::Place;
+use crate::replica::machine::Machine;
 use crate::stage::{LaneItem, Stage, Stepped};
 use batcher::fed::Fed;
 use jp_types::batch::Batch;
 use jp_types::command::{Command, Reply, Request};
 use jp_types::listed::Listed;
-use jp_types::memory::{Duplicate, NoMemory};
+use jp_types::memory::Duplicate;
 use jp_types::message::{Message, ReplicaId};
 use jp_types::mode::Mode;
 use jp_types::octets::Octets;
@@ -38,7 +38,10 @@ pub enum Line {
 pub struct Three {
     pub alloc: Global,
     mode: Mode,
-    places: Vec<Place<MemoryDisk>>,
+    /// The replicas that are running.
+    machines: Vec<Option<Machine<MemoryDisk>>>,
+    /// The disks of those that are not.
+    disks: Vec<Option<MemoryDisk>>,
     pub sent: Vec<(ReplicaId, ReplicaId, Message)>,
 }
 
@@ -145,23 +148,22 @@ impl Three {
         let mut three = Three {
             alloc,
             mode,
-            places: Vec::new(alloc),
+            machines: Vec::new(alloc),
+            disks: Vec::new(alloc),
             sent: Vec::new(alloc),
         };
         let mut text = String::new(alloc);
         for me in 0u8..3 {
             let disk = MemoryDisk::new(vec![in alloc; 0; 18]?);
-            three.places.push(Place::new(disk))?;
+            three.machines.push(None)?;
+            three.disks.push(Some(disk))?;
             text.push_str(&three.begin(me)?)?;
         }
         Ok((three, text))
     }
 
-    fn place(&mut self, r: ReplicaId) -> Result<&mut Place<MemoryDisk>, NoMemory> {
-        match self.places.get_mut(r as usize) {
-            Some(place) => Ok(place),
-            None => Err(NoMemory),
-        }
+    fn take_disk(&mut self, r: ReplicaId) -> Option<MemoryDisk> {
+        self.disks.get_mut(r as usize)?.take()
     }
 
     /// Begins the next life of a replica. The text of what it does first.
@@ -172,8 +174,13 @@ impl Three {
             mode: self.mode,
             window: 4,
         };
-        let alloc = self.alloc;
-        let acts = self.place(r)?.start(alloc, &config)?;
+        let Some(disk) = self.take_disk(r) else {
+            return Err(Fail::new("the replica is running"));
+        };
+        let (machine, acts) = Machine::start(self.alloc, &config, disk)?;
+        if let Some(place) = self.machines.get_mut(r as usize) {
+            *place = Some(machine);
+        }
         self.show(r, &acts)
     }
 
@@ -182,10 +189,26 @@ impl Three {
         Ok(format!(in self.alloc; "done{text}")?)
     }
 
+    fn keep_disk(&mut self, r: ReplicaId, disk: MemoryDisk) {
+        if let Some(place) = self.disks.get_mut(r as usize) {
+            *place = Some(disk);
+        }
+    }
+
     /// Ends the life of a replica, whose disk stays.
     fn crash(&mut self, r: ReplicaId) -> Result<String, Fail> {
-        self.place(r)?.crash();
-        Ok(format!(in self.alloc; "done")?)
+        let machine = match self.machines.get_mut(r as usize) {
+            Some(place) => place.take(),
+            None => None,
+        };
+        let word = match machine {
+            Some(machine) => {
+                self.keep_disk(r, machine.crash());
+                "done"
+            }
+            None => "down",
+        };
+        Ok(format!(in self.alloc; "{word}")?)
     }
 
     /// The text of the steps that acts show. Messages are kept.
@@ -209,10 +232,15 @@ impl Three {
     }
 
     pub fn put(&mut self, r: ReplicaId, stage: Stage, item: LaneItem) -> Result<String, Fail> {
-        let word = match self.place(r)?.put(stage, item) {
-            Some(true) => "done",
-            Some(false) => "full",
-            None => "down",
+        let word = match self.machines.get_mut(r as usize) {
+            Some(Some(machine)) => {
+                if machine.put(stage, item) {
+                    "done"
+                } else {
+                    "full"
+                }
+            }
+            _ => "down",
         };
         Ok(format!(in self.alloc; "{word}")?)
     }
@@ -232,8 +260,15 @@ impl Three {
         self.put(r, Stage::Batch, LaneItem::Fed(Fed::Request(request)))
     }
 
+    fn step(&mut self, r: ReplicaId, stage: Stage) -> Stepped {
+        match self.machines.get_mut(r as usize) {
+            Some(Some(machine)) => machine.step(stage),
+            _ => Stepped::Down,
+        }
+    }
+
     pub fn take(&mut self, r: ReplicaId, stage: Stage) -> Result<String, Fail> {
-        let word = match self.place(r)?.step(stage) {
+        let word = match self.step(r, stage) {
             Stepped::Done(acts) => {
                 let mut text = format!(in self.alloc; "done")?;
                 text.push_str(&self.show(r, &acts)?)?;
