@@ -1,5 +1,7 @@
 //! A long run: two replicas take snapshots, and a third one that lost all is given the newest.
 
+ghost use Rattle.std.specs.Prelude.{◌≤◌};
+
 use super::tests::{schedule_of, told};
 use super::*;
 use cluster::show_parts::push_text;
