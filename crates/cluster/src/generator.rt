@@ -424,9 +424,9 @@ mod tests {
     use crate::text::show;
     use std::test::Fail;
 
-    // The summary of the run that a seed draws, and the text of the run of its schedule.
+    // The summary of the run that a seed draws, for 3 to 9 replicas, and the text of the run of its schedule.
     fn told(alloc: Global, seed: u64, n: u8, steps: u32) -> Result<(Octets, Octets), Fail> {
-        let (_schedule, run) = generate_run(alloc, seed, n, steps)?;
+        let (_schedule, run) = generate_run(alloc, seed, n.max(3).min(9), steps)?;
         Ok((summary(alloc, &run, seed)?, show(alloc, &run)?))
     }
 

@@ -16,8 +16,14 @@ struct Lines {
 impl Lines {
     // Begins by the first line, whose text is told.
     fn start(alloc: Global, first: &str) -> Result<(Lines, Vec<u8>), Fail> {
-        let Line::Cluster(head) = read_line(alloc, first.as_bytes(), None)? else {
+        let Line::Cluster(read) = read_line(alloc, first.as_bytes(), None)? else {
             return Err("no first line")?;
+        };
+        // a line that is read is within these limits, and `read_line` does not say so
+        let head = Head {
+            n: read.n.max(3).min(9),
+            mode: read.mode,
+            window: read.window.max(1).min(64),
         };
         let (stepper, event) = Stepper::start(alloc, &head)?;
         let mut text = Vec::new(alloc);
