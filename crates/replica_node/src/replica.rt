@@ -189,14 +189,3 @@ impl Replica {
         self.stages.finish()
     }
 }
-
-#[cfg(test)]
-mod lane_tests;
-#[cfg(test)]
-mod machine;
-#[cfg(test)]
-mod recovery_tests;
-#[cfg(test)]
-mod tests;
-#[cfg(test)]
-mod three;
