@@ -44,10 +44,10 @@ pub none_found : (r seen : ℕ) (sent later : List Sent) → seen ≤ length sen
     → message_from r seen (sent ++ later) ≡ message_from r (length sent) (sent ++ later)
 none_found r seen sent later within none =
     let front : message_from r seen (sent ++ later) ≡ message_to r seen (drop seen sent ++ later) =
-        ap (λ (ms : List Sent). message_to r seen ms) (drop-append-le seen sent later within) in
+    ap (λ (ms : List Sent). message_to r seen ms) (drop-append-le seen sent later within) in
     let count : seen + length (drop seen sent) ≡ length sent = rw (length-drop seen sent) (omega arith) in
     let behind : message_to r (length sent) (drop (length sent) (sent ++ later)) ≡ message_to r (length sent) later =
-        ap (λ (ms : List Sent). message_to r (length sent) ms) (drop-append_seam sent later) in
+    ap (λ (ms : List Sent). message_to r (length sent) ms) (drop-append_seam sent later) in
     front ∙ message_behind r seen (drop seen sent) later none ∙ ap (λ (k : ℕ). message_to r k later) count ∙ sym behind
 
 -- the next message to r is found among those that were not looked at
@@ -78,6 +78,7 @@ pub looked_at_again : (g : Generating) (sent : List Sent) (replica seen : ℕ) �
 looked_at_again g sent replica seen looked within here r low = by (cases_eq r replica) where
   there : r < length g.seen
   there = rw length-set at low
+
   by : (r ≡ replica) ⊎ (r ≡ replica → ⊥) → IsLookedAt r (slice_index g.drawing.from r) (slice_index (slice_set g.seen replica seen) r) sent
   by (inl same) = rw same (rw (get_or-set_same g.seen replica seen 0 within) here)
   by (inr other) = rw (get_or-set_other g.seen replica r seen 0 other) (looked r there)

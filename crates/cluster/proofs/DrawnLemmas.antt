@@ -53,12 +53,12 @@ being_drawn_first seed n e s opens =
       };
       made = λ client. made_none client;
     } where
-  made_none : (client : ℕ) → slice_index (replicate 8 0) client < 1
-  made_none client = by (cases_order client 8) where
-    by : (client ≡ 8) ⊎ ((client < 8) ⊎ (8 < client)) → slice_index (replicate 8 0) client < 1
-    by (inl same) = rw same (lit< tt)
-    by (inr (inl low)) = let zeros : List ℕ = replicate 8 0 in let none : slice_index zeros client ≡ 0 = get_or-replicate {A = ℕ} 8 client 0 0 low in rw none (lit< tt)
-    by (inr (inr past)) = let zeros : List ℕ = replicate 8 0 in let none : slice_index zeros client ≡ 0 = get_or_past zeros client 0 (omega arith) in rw none (lit< tt)
+      made_none : (client : ℕ) → slice_index (replicate 8 0) client < 1
+      made_none client = by (cases_order client 8) where
+        by : (client ≡ 8) ⊎ ((client < 8) ⊎ (8 < client)) → slice_index (replicate 8 0) client < 1
+        by (inl same) = rw same (lit< tt)
+        by (inr (inl low)) = let zeros : List ℕ = replicate 8 0 in let none : slice_index zeros client ≡ 0 = get_or-replicate {A = ℕ} 8 client 0 0 low in rw none (lit< tt)
+        by (inr (inr past)) = let zeros : List ℕ = replicate 8 0 in let none : slice_index zeros client ≡ 0 = get_or_past zeros client 0 (omega arith) in rw none (lit< tt)
 
 -- one line more is drawn
 pub being_drawn_more : (seed n count : ℕ) (g after_g : Generating) (s after : Stepping) (lines lines_after : List Line) (events events_after : List Event)
@@ -78,15 +78,18 @@ being_drawn_more seed n count g after_g s after lines lines_after events events_
       serves = serves_still s after after_g (happens_grows s (next_line s g.drawing).0 runs.event after runs.happens) serves;
       made = λ client. made client;
     } where
-  more : Draws (first_drawing seed n) drawn.draws.begun (lines ++ (next_line s g.drawing).0 ∷ []) (drawn.draws.more ++ runs.event ∷ []) (next_line s g.drawing).1 after
-  more = draws_more (first_drawing seed n) drawn.draws.begun lines drawn.draws.more g.drawing s runs.event after drawn.draws.draws runs.happens
-  all : Draws (first_drawing seed n) drawn.draws.begun lines_after (drawn.draws.more ++ runs.event ∷ []) after_g.drawing after
-  all = subst (λ (ls : List Line). Draws (first_drawing seed n) drawn.draws.begun ls (drawn.draws.more ++ runs.event ∷ []) after_g.drawing after) (sym runs.lines_are)
-      (subst (λ (d : Drawing). Draws (first_drawing seed n) drawn.draws.begun (lines ++ (next_line s g.drawing).0 ∷ []) (drawn.draws.more ++ runs.event ∷ []) d after) (sym drawing) more)
-  longer : length (lines ++ (next_line s g.drawing).0 ∷ []) ≡ suc count
-  longer = (let so_far = drawn.count_is in rw (length-append lines ((next_line s g.drawing).0 ∷ [])) (omega arith))
-  made : (client : ℕ) → slice_index after_g.drawing.made client < suc (suc count)
-  made client =
-      let below = drawn.made client in
-      let risen = next_more client s g.drawing in
-      rw drawing (omega (arith, below, risen))
+      more : Draws (first_drawing seed n) drawn.draws.begun (lines ++ (next_line s g.drawing).0 ∷ []) (drawn.draws.more ++ runs.event ∷ []) (next_line s g.drawing).1 after
+      more = draws_more (first_drawing seed n) drawn.draws.begun lines drawn.draws.more g.drawing s runs.event after drawn.draws.draws runs.happens
+
+      all : Draws (first_drawing seed n) drawn.draws.begun lines_after (drawn.draws.more ++ runs.event ∷ []) after_g.drawing after
+      all = subst (λ (ls : List Line). Draws (first_drawing seed n) drawn.draws.begun ls (drawn.draws.more ++ runs.event ∷ []) after_g.drawing after) (sym runs.lines_are)
+          (subst (λ (d : Drawing). Draws (first_drawing seed n) drawn.draws.begun (lines ++ (next_line s g.drawing).0 ∷ []) (drawn.draws.more ++ runs.event ∷ []) d after) (sym drawing) more)
+
+      longer : length (lines ++ (next_line s g.drawing).0 ∷ []) ≡ suc count
+      longer = (let so_far = drawn.count_is in rw (length-append lines ((next_line s g.drawing).0 ∷ [])) (omega arith))
+
+      made : (client : ℕ) → slice_index after_g.drawing.made client < suc (suc count)
+      made client =
+          let below = drawn.made client in
+          let risen = next_more client s g.drawing in
+          rw drawing (omega (arith, below, risen))

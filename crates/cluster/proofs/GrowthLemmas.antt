@@ -52,6 +52,7 @@ grows_at P s r o grows at = by (slice_get s.machines r) at where
   on : (m : Machine) (up : Option Whole) → OnUp P s m up o → Grows s o.after
   on m None e = grows_not s o Word.Down e
   on m (Some a) h = grows m a h
+
   by : (found : Option Machine) → OnMachine P s found o → Grows s o.after
   by None e = grows_not s o Word.Down e
   by (Some m) h = on m m.running h

@@ -41,11 +41,11 @@ step_taken at m a stepped after disk new (Ok did) up does keeps answered new_is 
       up = ap (λ (x : Machine). x.running) new_is;
       disk = subst (λ (x : List ℕ). KeepsDisk at m.disk after x) (sym (ap (λ (x : Machine). x.disk) new_is)) (keeps (answers stepped did.word did.acts answered));
     }) where
-  answers : (stepped : Stepped) (word : Word) (acts : List Act) → IsAnswered stepped word acts → is_answered stepped ≡ true
-  answers (answer.Done done) word acts h = refl
-  answers answer.Empty word acts h = refl
-  answers answer.Full word acts h = refl
-  answers answer.Down word acts h = absurd h
-  answers answer.StoreFault word acts h = absurd h
-  answers answer.NoMemory word acts h = absurd h
+      answers : (stepped : Stepped) (word : Word) (acts : List Act) → IsAnswered stepped word acts → is_answered stepped ≡ true
+      answers (answer.Done done) word acts h = refl
+      answers answer.Empty word acts h = refl
+      answers answer.Full word acts h = refl
+      answers answer.Down word acts h = absurd h
+      answers answer.StoreFault word acts h = absurd h
+      answers answer.NoMemory word acts h = absurd h
 step_taken at m a stepped after disk new (Err e) up does keeps answered new_is = tt

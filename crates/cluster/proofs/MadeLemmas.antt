@@ -22,9 +22,11 @@ risen : (made : List ℕ) (at client : ℕ) → slice_index (slice_set made at (
 risen made at client = by (cases_eq client at) where
   there : (at < length made) ⊎ (length made ≤ at)
   there = (let order = cases_order at (length made) in grind arith)
+
   here : (at < length made) ⊎ (length made ≤ at) → slice_index (slice_set made at (suc (slice_index made at))) at ≤ suc (slice_index made at)
   here (inl low) = rw (get_or-set_same made at (suc (slice_index made at)) 0 low) (omega arith)
   here (inr past) = rw (set_past made at (suc (slice_index made at)) past) (omega arith)
+
   by : (client ≡ at) ⊎ (client ≡ at → ⊥) → slice_index (slice_set made at (suc (slice_index made at))) client ≤ suc (slice_index made client)
   by (inl same) = rw same (here there)
   by (inr other) = rw (get_or-set_other made at client (suc (slice_index made at)) 0 other) (omega arith)

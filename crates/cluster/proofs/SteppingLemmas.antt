@@ -70,11 +70,12 @@ put_on at item s r m o is comes = up_on_machine (λ m a o. o ≡ puts at item s 
       let running : option_map (with_lane_item at item) (Some a) ≡ m.running = ap (λ (x : Whole). Some x) kept ∙ sym up in
       let machine : record m { running = option_map (with_lane_item at item) (Some a) } ≡ m = ap (λ (x : Option Whole). record m { running = x }) running in
       let after : with_machine s r (record m { running = option_map (with_lane_item at item) (Some a) }) ≡ s =
-          ap (λ (x : Machine). with_machine s r x) machine ∙ machine_kept s r m is in
+      ap (λ (x : Machine). with_machine s r x) machine ∙ machine_kept s r m is in
       let shown : record { word = Full; steps = []; after = with_machine s r (record m { running = option_map (with_lane_item at item) (Some a) }) } ≡ refused Full s =
-          ap (λ (t : Stepping). record { word = Full; steps = []; after = t }) after in
+      ap (λ (t : Stepping). record { word = Full; steps = []; after = t }) after in
       rw e shown
   full a false e up = rw e refl
+
   by : (up : Option Whole) → m.running ≡ up → o ≡ put_outcome at item s r m up → OnUp (λ m a o. o ≡ puts at item s r m a) s m up o
   by None e c =
       let machine : record m { running = None } ≡ m = ap (λ (x : Option Whole). record m { running = x }) (sym e) in
@@ -87,12 +88,14 @@ pub put_refused : (at : Stage) (item : LaneItem) (s : Stepping) (r : ℕ) (word 
 put_refused at item s r word o is undone comes = by (slice_get s.machines r) refl where
   P : Machine → Whole → Outcome → Type 0
   P m a o = o ≡ puts at item s r m a
+
   full : (m : Machine) (a : Whole) (b : Bool) → is_full_at a.stages at ≡ b → replica_at s r ≡ Some a → o ≡ puts at item s r m a
   full m a true e up =
       let word_is : word ≡ Full = (let told = rw up at is in rw e at told) in
       let same : refused word s ≡ puts at item s r m a = rw e (ap (λ (w : Word). refused w s) word_is) in
       comes ∙ same
   full m a false e up = absurd (undone (let told = rw up at is in rw e at told))
+
   on : (m : Machine) (up : Option Whole) → m.running ≡ up → slice_get s.machines r ≡ Some m → OnUp (λ m a o. o ≡ puts at item s r m a) s m up o
   on m None e found =
       let none : replica_at s r ≡ None = rw found e in
@@ -101,6 +104,7 @@ put_refused at item s r word o is undone comes = by (slice_get s.machines r) ref
   on m (Some a) e found =
       let some : replica_at s r ≡ Some a = rw found e in
       full m a (is_full_at a.stages at) refl some
+
   by : (found : Option Machine) → slice_get s.machines r ≡ found → AtUp (λ m a o. o ≡ puts at item s r m a) s r o
   by None e =
       let none : replica_at s r ≡ None = rw e refl in
@@ -120,9 +124,11 @@ tick_on s r m o is comes = up_on_machine (λ m a o. o ≡ ticks s r m a) s r o m
   kept word up e =
       let machine : record m { running = up } ≡ m = ap (λ (x : Option Whole). record m { running = x }) (sym e) in
       ap (λ (t : Stepping). record { word = word; steps = []; after = t }) (ap (λ (x : Machine). with_machine s r x) machine ∙ machine_kept s r m is)
+
   full : (a : Whole) (b : Bool) → has_full_lane a ≡ b → m.running ≡ Some a → tick_outcome s r m (Some a) ≡ ticks s r m a
   full a true e up = rw e (kept Full (Some a) up)
   full a false e up = rw e refl
+
   by : (up : Option Whole) → m.running ≡ up → o ≡ tick_outcome s r m up → OnUp (λ m a o. o ≡ ticks s r m a) s m up o
   by None e c = c ∙ kept Down None e
   by (Some a) e c = c ∙ full a (has_full_lane a) refl e
@@ -131,7 +137,7 @@ tick_on s r m o is comes = up_on_machine (λ m a o. o ≡ ticks s r m a) s r o m
 pub acted_nothing : (s : Stepping) (r : ℕ) (m : Machine) (word : Word) → slice_get s.machines r ≡ Some m → acted s r word [] m ≡ refused word s
 acted_nothing s r m word is =
     let sent : acted s r word [] m ≡ record { word = word; steps = []; after = with_machine s r m } =
-        ap (λ (sent : List Sent). record { word = word; steps = []; after = record { head = s.head; machines = slice_set s.machines r m; sent = sent } }) (append-nil s.sent) in
+    ap (λ (sent : List Sent). record { word = word; steps = []; after = record { head = s.head; machines = slice_set s.machines r m; sent = sent } }) (append-nil s.sent) in
     sent ∙ ap (λ (t : Stepping). record { word = word; steps = []; after = t }) (machine_kept s r m is)
 
 -- a stage on a machine took a step
@@ -165,8 +171,8 @@ pub take_shown : (at : Stage) (s : Stepping) (r : ℕ) (m : Machine) (did : Answ
     → IfOk result (λ shown. Takes at s r (record { word = shown.word; steps = shown.steps; after = after }))
 take_shown at s r m did new after (Ok shown) found does shown_is after_is =
     let comes : record { word = shown.word; steps = shown.steps; after = after } ≡ acted s r did.word did.acts new =
-        ap (λ (x : Shown). record { word = x.word; steps = x.steps; after = after }) shown_is
-        ∙ ap (λ (t : Stepping). record { word = did.word; steps = shown_by (length s.sent) did.acts; after = t }) after_is in
+    ap (λ (x : Shown). record { word = x.word; steps = x.steps; after = after }) shown_is
+    ∙ ap (λ (t : Stepping). record { word = did.word; steps = shown_by (length s.sent) did.acts; after = t }) after_is in
     take_on at s r m did.word did.acts new (record { word = shown.word; steps = shown.steps; after = after }) found does comes
 take_shown at s r m did new after (Err e) found does shown_is after_is = tt
 
@@ -178,7 +184,7 @@ pub start_shown : (config : Config) (s : Stepping) (r : ℕ) (m : Machine) (did 
     → IfOk result (λ shown. Starts s r (record { word = shown.word; steps = shown.steps; after = after }))
 start_shown config s r m did new after (Ok shown) constants found does shown_is after_is =
     let comes : record { word = shown.word; steps = shown.steps; after = after } ≡ acted s r did.word did.acts new =
-        ap (λ (x : Shown). record { word = x.word; steps = x.steps; after = after }) shown_is
-        ∙ ap (λ (t : Stepping). record { word = did.word; steps = shown_by (length s.sent) did.acts; after = t }) after_is in
+    ap (λ (x : Shown). record { word = x.word; steps = x.steps; after = after }) shown_is
+    ∙ ap (λ (t : Stepping). record { word = did.word; steps = shown_by (length s.sent) did.acts; after = t }) after_is in
     start_on config s r m did.word did.acts new (record { word = shown.word; steps = shown.steps; after = after }) constants found does comes
 start_shown config s r m did new after (Err e) constants found does shown_is after_is = tt

@@ -142,12 +142,7 @@ impl SentMessages {
     }
 
     // Shows one act, and keeps what it sends.
-    fn show(
-        &mut self,
-        from: ReplicaId,
-        act: Act,
-        steps: &mut Listed<Step>,
-    ) -> Result<(), NoMemory>
+    fn show(&mut self, from: ReplicaId, act: Act, steps: &mut Listed<Step>) -> Result<(), NoMemory>
         ensures sent { OnOk result (self.new ≡ self.old ++ sent_of from act) }
         ensures shown { OnOk result (steps.new ≡ steps.old ++ shown_of (length self.old) act) }
     {

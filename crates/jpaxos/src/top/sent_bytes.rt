@@ -24,7 +24,10 @@ fn push_opening(input: &mut Vec<u8>) -> Result<(), NoMemory> {
 
 /// Appends a Put of client 1 with a value of so many bytes.
 fn push_put(alloc: Global, number: u64, size: usize, input: &mut Vec<u8>) -> Result<(), Fail> {
-    push_text(format!(in alloc; "request 0 1 {number} put 61 ")?.as_bytes(), input)?;
+    push_text(
+        format!(in alloc; "request 0 1 {number} put 61 ")?.as_bytes(),
+        input,
+    )?;
     for _ in 0..size {
         push_text(b"78", input)?;
     }

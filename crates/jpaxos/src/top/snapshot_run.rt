@@ -45,7 +45,10 @@ fn push_put(alloc: Global, number: u64, text: &mut Vec<u8>) -> Result<(), Fail>
     let instance = number - 1;
     let message = 3 + 6 * instance;
     let key = number % KEYS;
-    push_text(format!(in alloc; "request 0 1 {number} put {key:02x} ")?.as_bytes(), text)?;
+    push_text(
+        format!(in alloc; "request 0 1 {number} put {key:02x} ")?.as_bytes(),
+        text,
+    )?;
     push_value(text)?;
     push_text(
         b" = done\nbatch 0 = done\ntick 0 = done\nbatch 0 = done\n",
@@ -54,7 +57,10 @@ fn push_put(alloc: Global, number: u64, text: &mut Vec<u8>) -> Result<(), Fail>
     let proposed = format!(in alloc;
         "protocol 0 = done; send {} 1 alive; send {} 2 alive\n\
         protocol 0 = done; launch 0 0 {instance} 1.{number}; vote 0 0 {instance}; send {} 1 propose; send {} 2 propose\n",
-        message, message + 1, message + 2, message + 3
+        message,
+        message + 1,
+        message + 2,
+        message + 3
     )?;
     push_text(proposed.as_bytes(), text)?;
     let learned = format!(in alloc;
@@ -64,7 +70,10 @@ fn push_put(alloc: Global, number: u64, text: &mut Vec<u8>) -> Result<(), Fail>
         deliver 0 {} = done\n\
         protocol 0 = done; learn 0 {instance}\n\
         service 0 = done; execute 0 {instance} 1.{number}+ok\n",
-        message + 2, message + 4, message + 5, message + 4
+        message + 2,
+        message + 4,
+        message + 5,
+        message + 4
     )?;
     push_text(learned.as_bytes(), text)?;
     if number % 256 == 0 {
@@ -102,7 +111,10 @@ fn push_return(text: &mut Vec<u8>) -> Result<(), NoMemory> {
 
 /// Appends how a replica ends: with all keys.
 fn push_replica(alloc: Global, replica: u64, text: &mut Vec<u8>) -> Result<(), Fail> {
-    push_text(format!(in alloc; "replica {replica} working 0 512")?.as_bytes(), text)?;
+    push_text(
+        format!(in alloc; "replica {replica} working 0 512")?.as_bytes(),
+        text,
+    )?;
     for key in 0..KEYS {
         push_text(format!(in alloc; " {key:02x}=")?.as_bytes(), text)?;
         push_value(text)?;

@@ -1,6 +1,7 @@
 use super::texts::{
-    ANSWER_WORDS, CATCHES_UP, ENDED_ANSWER, ENDED_PROMISE, FILLED_GAP, NEXT_VIEW, NO_LICENCE, NOTHING_HAPPENS,
-    OUT_OF_ORDER, PLAIN_PATH, RECOVERING_LEADER, REJOINS, REPEATS, STORE, TWO_CRASHES, TWO_LEADERS,
+    ANSWER_WORDS, CATCHES_UP, ENDED_ANSWER, ENDED_PROMISE, FILLED_GAP, NEXT_VIEW, NO_LICENCE,
+    NOTHING_HAPPENS, OUT_OF_ORDER, PLAIN_PATH, RECOVERING_LEADER, REJOINS, REPEATS, STORE,
+    TWO_CRASHES, TWO_LEADERS,
 };
 use super::*;
 use cluster::show_parts::push_text;
@@ -265,11 +266,31 @@ fn summarizes_a_long_drawn_run(rt: HostRuntime) -> Result<(), Fail> {
     }
     assert_eq!(rt; sum, 20002);
     for (working, recovering, down) in [
-        ("replica 0 working - - -", "replica 0 recovering - - -", "replica 0 down"),
-        ("replica 1 working - - -", "replica 1 recovering - - -", "replica 1 down"),
-        ("replica 2 working - - -", "replica 2 recovering - - -", "replica 2 down"),
-        ("replica 3 working - - -", "replica 3 recovering - - -", "replica 3 down"),
-        ("replica 4 working - - -", "replica 4 recovering - - -", "replica 4 down"),
+        (
+            "replica 0 working - - -",
+            "replica 0 recovering - - -",
+            "replica 0 down",
+        ),
+        (
+            "replica 1 working - - -",
+            "replica 1 recovering - - -",
+            "replica 1 down",
+        ),
+        (
+            "replica 2 working - - -",
+            "replica 2 recovering - - -",
+            "replica 2 down",
+        ),
+        (
+            "replica 3 working - - -",
+            "replica 3 recovering - - -",
+            "replica 3 down",
+        ),
+        (
+            "replica 4 working - - -",
+            "replica 4 recovering - - -",
+            "replica 4 down",
+        ),
     ] {
         let line = lines.next().unwrap_or_default();
         let mut found = 0;
@@ -286,7 +307,13 @@ fn summarizes_a_long_drawn_run(rt: HostRuntime) -> Result<(), Fail> {
 #[test]
 fn reads_the_words(rt: HostRuntime) -> Result<(), Fail> {
     for (words, status) in [
-        (["cluster"].as_slice(), Status::BadSchedule { line: 1, cause: Cause::NoCluster }),
+        (
+            ["cluster"].as_slice(),
+            Status::BadSchedule {
+                line: 1,
+                cause: Cause::NoCluster,
+            },
+        ),
         (&[], Status::Usage),
         (&["Cluster"], Status::Usage),
         (&["cluster", "cluster"], Status::Usage),

@@ -52,11 +52,11 @@ returns-clause-runs c =
     let ran = c.in_ok-run.ensures.ok in
     let before = drawn_reaches c.args.seed c.args.n d.lines d.events d.generator.drawing d.stepper c.loop.invariant.drawn.draws in
     let after : Reaches (drawn_head c.args.seed c.args.n) (d.lines ++ Line.End ∷ []) (d.events ++ ran.event ∷ []) e.stepper =
-        reaches_more (drawn_head c.args.seed c.args.n) d.lines d.events d.stepper Line.End ran.event e.stepper before ran.happens in
+    reaches_more (drawn_head c.args.seed c.args.n) d.lines d.events d.stepper Line.End ran.event e.stepper before ran.happens in
     let of_lines : Reaches (drawn_head c.args.seed c.args.n) e.lines (d.events ++ ran.event ∷ []) e.stepper =
-        subst (λ (ls : List Line). Reaches (drawn_head c.args.seed c.args.n) ls (d.events ++ ran.event ∷ []) e.stepper) (sym ran.lines_are) after in
+    subst (λ (ls : List Line). Reaches (drawn_head c.args.seed c.args.n) ls (d.events ++ ran.event ∷ []) e.stepper) (sym ran.lines_are) after in
     let of_events : Reaches (drawn_head c.args.seed c.args.n) e.lines e.events e.stepper =
-        subst (λ (es : List Event). Reaches (drawn_head c.args.seed c.args.n) e.lines es e.stepper) (sym ran.events_are) of_lines in
+    subst (λ (es : List Event). Reaches (drawn_head c.args.seed c.args.n) e.lines es e.stepper) (sym ran.events_are) of_lines in
     record {
       after = e.stepper;
       reaches = subst (λ (h : Head). Reaches h e.lines e.events e.stepper) (sym c.drawn_head-head.ensures) of_events;

@@ -27,7 +27,7 @@ loop-line-preserved c =
     record {
       reaches = subst (λ (es : List Event). Reaches c.args.schedule.now.head (take (c.loop-line.line-index + 1) c.args.schedule.now.lines) es c.event.new.self) (sym c.in_ok-push-2.ensures.ok)
           (reaches_next c.args.schedule.now.head c.args.schedule.now.lines c.loop-line.line-index c.loop-line.events c.loop-line.stepper c.line-item.result c.in_ok-event.field-0 c.event.new.self
-            low is c.loop-line.invariant.reaches c.in_ok-event.ensures.happens);
+          low is c.loop-line.invariant.reaches c.in_ok-event.ensures.happens);
       within = c.in_ok-event.ensures.within;
     }
 
@@ -37,5 +37,5 @@ returns-clause-lines c =
     let past : length c.args.schedule.now.lines ≤ c.loop-line.line-index = rw c.as_slice-line-items.ensures at test in
     let all : take c.loop-line.line-index c.args.schedule.now.lines ≡ c.args.schedule.now.lines = take_all c.loop-line.line-index c.args.schedule.now.lines past in
     let reaches : Reaches c.args.schedule.now.head c.args.schedule.now.lines c.loop-line.events c.loop-line.stepper =
-        subst (λ (lines : List Line). Reaches c.args.schedule.now.head lines c.loop-line.events c.loop-line.stepper) all c.loop-line.invariant.reaches in
+    subst (λ (lines : List Line). Reaches c.args.schedule.now.head lines c.loop-line.events c.loop-line.stepper) all c.loop-line.invariant.reaches in
     reaches_lines c.args.schedule.now.head c.args.schedule.now.lines c.loop-line.events c.loop-line.stepper reaches

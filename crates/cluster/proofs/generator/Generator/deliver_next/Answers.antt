@@ -11,7 +11,7 @@ returns-in-Some-clause-line c =
     let looked : AreLookedAt g c.args.sent.now = subst (λ (x : Generating). AreLookedAt x c.args.sent.now) (sym c.self.view_is) c.requires.looked in
     let low : c.args.replica < length g.seen = subst (λ (x : Generating). c.args.replica < length x.seen) (sym c.self.view_is) c.requires.replica in
     let found : message_from c.args.replica (slice_index g.seen c.args.replica) c.args.sent.now ≡ Some c.in-Some.message =
-        ap (λ k. message_from c.args.replica k c.args.sent.now) (read_at g.seen c.args.replica c.index.result.now low c.index.ensures) ∙ sym c.message_from.ensures.value ∙ c.in-Some.is in
+    ap (λ k. message_from c.args.replica k c.args.sent.now) (read_at g.seen c.args.replica c.index.result.now low c.index.ensures) ∙ sym c.message_from.ensures.value ∙ c.in-Some.is in
     let drawn : Drawn = (Line.Deliver c.args.replica c.in-Some.message, record g.drawing { from = slice_set g.drawing.from c.args.replica (suc c.in-Some.message) }) in
     rw add-one (subst (λ (x : Generating). drawn ≡ delivers_next (message_from c.args.replica (slice_index x.drawing.from c.args.replica) c.args.sent.now) c.args.replica x.drawing) c.self.view_is
     (sym (delivers_found g c.args.sent.now c.args.replica c.in-Some.message looked low found)))
@@ -22,7 +22,7 @@ returns-in-None-clause-line c =
     let looked : AreLookedAt g c.args.sent.now = subst (λ (x : Generating). AreLookedAt x c.args.sent.now) (sym c.self.view_is) c.requires.looked in
     let low : c.args.replica < length g.seen = subst (λ (x : Generating). c.args.replica < length x.seen) (sym c.self.view_is) c.requires.replica in
     let none : message_from c.args.replica (slice_index g.seen c.args.replica) c.args.sent.now ≡ None =
-        ap (λ k. message_from c.args.replica k c.args.sent.now) (read_at g.seen c.args.replica c.index.result.now low c.index.ensures) ∙ sym c.message_from.ensures.value ∙ c.in-None.is in
+    ap (λ k. message_from c.args.replica k c.args.sent.now) (read_at g.seen c.args.replica c.index.result.now low c.index.ensures) ∙ sym c.message_from.ensures.value ∙ c.in-None.is in
     let drawn : Drawn = (Line.Protocol c.args.replica, g.drawing) in
     subst (λ (x : Generating). drawn ≡ delivers_next (message_from c.args.replica (slice_index x.drawing.from c.args.replica) c.args.sent.now) c.args.replica x.drawing) c.self.view_is
     (sym (delivers_none g c.args.sent.now c.args.replica looked low none))
@@ -33,6 +33,6 @@ returns-in-None-clause-looked c =
     let looked : AreLookedAt g c.args.sent.now = subst (λ (x : Generating). AreLookedAt x c.args.sent.now) (sym c.self.view_is) c.requires.looked in
     let low : c.args.replica < length g.seen = subst (λ (x : Generating). c.args.replica < length x.seen) (sym c.self.view_is) c.requires.replica in
     let none : message_from c.args.replica (slice_index g.seen c.args.replica) c.args.sent.now ≡ None =
-        ap (λ k. message_from c.args.replica k c.args.sent.now) (read_at g.seen c.args.replica c.index.result.now low c.index.ensures) ∙ sym c.message_from.ensures.value ∙ c.in-None.is in
+    ap (λ k. message_from c.args.replica k c.args.sent.now) (read_at g.seen c.args.replica c.index.result.now low c.index.ensures) ∙ sym c.message_from.ensures.value ∙ c.in-None.is in
     looked_at_again g c.args.sent.now c.args.replica (length c.args.sent.now) looked low
     (looked_at_all c.args.replica (slice_index g.drawing.from c.args.replica) (slice_index g.seen c.args.replica) c.args.sent.now (looked c.args.replica low) none)

@@ -11,6 +11,6 @@ returns c =
     let s : Stepping = record { head = c.self.inside.head; machines = c.self.inside.machines.items; sent = c.self.inside.sent } in
     let m : Machine = c.in-Some.machine.now in
     let found : slice_get s.machines c.args.replica ≡ Some m =
-        slice_get_read s.machines (length s.machines) c.args.replica m refl (ltb-true c.args.replica (length s.machines) (sym c.in-Some.ensures.item.0)) c.in-Some.ensures.item.1 in
+    slice_get_read s.machines (length s.machines) c.args.replica m refl (ltb-true c.args.replica (length s.machines) (sym c.in-Some.ensures.item.0)) c.in-Some.ensures.item.1 in
     subst (λ (t : Stepping). IfOk c.show.result (λ shown. Starts t c.args.replica (record { word = shown.word; steps = shown.steps; after = c.show.new.self }))) c.self.view_is
     (start_shown c.config_of-config.result s c.args.replica m c.in_ok-did.did c.start.new.self c.show.new.self c.show.result c.config_of-config.ensures found c.in_ok-did.ensures c.show.ensures.shown c.show.ensures.after)

@@ -12,11 +12,11 @@ returns c =
     let s : Stepping = record { head = c.self.inside.head; machines = c.self.inside.machines.items; sent = c.self.inside.sent } in
     let m : Machine = c.in-Some.machine.now in
     let found : slice_get s.machines c.args.replica ≡ Some m =
-        slice_get_read s.machines (length s.machines) c.args.replica m refl (ltb-true c.args.replica (length s.machines) (sym c.in-Some.ensures.item.0)) c.in-Some.ensures.item.1 in
+    slice_get_read s.machines (length s.machines) c.args.replica m refl (ltb-true c.args.replica (length s.machines) (sym c.in-Some.ensures.item.0)) c.in-Some.ensures.item.1 in
     let o : Outcome = record { word = c.without_steps-2.result.word; steps = c.without_steps-2.result.steps; after = with_machine s c.args.replica c.tick-word.new.self } in
     let shown : o ≡ record { word = c.tick-word.result; steps = []; after = with_machine s c.args.replica c.tick-word.new.self } =
-        ap (λ (x : Shown). record { word = x.word; steps = x.steps; after = with_machine s c.args.replica c.tick-word.new.self }) c.without_steps-2.ensures in
+    ap (λ (x : Shown). record { word = x.word; steps = x.steps; after = with_machine s c.args.replica c.tick-word.new.self }) c.without_steps-2.ensures in
     let comes : record { word = c.tick-word.result; steps = []; after = with_machine s c.args.replica c.tick-word.new.self } ≡ tick_outcome s c.args.replica m m.running =
-        rw (c.tick-word.ensures.word, c.tick-word.ensures.after) refl in
+    rw (c.tick-word.ensures.word, c.tick-word.ensures.after) refl in
     let ticked : AtUp (λ m a o. o ≡ ticks s c.args.replica m a) s c.args.replica o = tick_on s c.args.replica m o found (shown ∙ comes) in
     subst (λ (t : Stepping). AtUp (λ m a o. o ≡ ticks t c.args.replica m a) t c.args.replica o) c.self.view_is ticked
