@@ -28,14 +28,14 @@ use Rattle.core_laws.specs.Holding.{KeepsVector}
 use Rattle.core_laws.specs.AcceptLaws.{IsSane, on_proposal, on_acceptance, AcceptsAlike, AnswersAlike}
 use Rattle.core_laws.proofs.LogLemmas.{logs_are_read, keeps-note, keeps-vote, keeps-known}
 
-both-true : (a b : Bool) → (a && not b) ≡ true → (a ≡ true) × (b ≡ false)
+pub both-true : (a b : Bool) → (a && not b) ≡ true → (a ≡ true) × (b ≡ false)
 both-true true true e = cc
 both-true true false e = (refl, refl)
 both-true false b e = cc
 
 -- ---- Notes
 
-kept-note : (s : Stage) (log : Log) (i view p : ℕ) (batch : Option Batch) → KeepsLog s log
+pub kept-note : (s : Stage) (log : Log) (i view p : ℕ) (batch : Option Batch) → KeepsLog s log
     → KeepsLog (logs.with_note (record { instance = i; view = view; replica = p; batch = batch }) s) (after_note log i view p batch)
 kept-note s log i view p batch h = go (logs.is_in_span s i && not (logs.is_known s i)) refl
   where
@@ -56,7 +56,7 @@ kept-note s log i view p batch h = go (logs.is_in_span s i && not (logs.is_known
         subst (KeepsLog (logs.with_note note s)) (sym (ap (λ b. if b then with_note log i view p batch else log) t))
         (record { n = h.n; base = h.base; votes = h.votes; known = h.known; tallies = λ j le none. h.tallies j le none ∙ sym (ap (λ (ns : List Note). tally_of (logs.notes_on j ns)) same) })
 
-kept-of : (n : ℕ) (s : Stage) (note : Note) → AreOf n s.noted → note.replica < n → AreOf n (logs.with_note note s).noted
+pub kept-of : (n : ℕ) (s : Stage) (note : Note) → AreOf n s.noted → note.replica < n → AreOf n (logs.with_note note s).noted
 kept-of n s note of lt = go (logs.is_in_span s note.instance && not (logs.is_known s note.instance))
   where
     go : (b : Bool) → AreOf n (if b then note ∷ s.noted else s.noted)

@@ -1,0 +1,4 @@
+//! What a replica's life does is what the stage of the model does.
+#![tactic(auto)]
+
+pub mod laws;
