@@ -32,7 +32,7 @@ lines-fit n (first ∷ lines) line all (inl e) = subst IsLine (sym e) (line-fits
 lines-fit n (first ∷ lines) line all (inr there) = lines-fit n lines line (All-tail (IsLineFit n) first lines all) there
 
 -- a schedule within its ranges is one of the laws
-within : (s : Schedule) → IsFit s → IsSchedule s
+pub within : (s : Schedule) → IsFit s → IsSchedule s
 within s h =
     let three = h.head.some in
     record { some = omega arith; few = h.head.few; lines = λ line there. lines-fit s.head.n s.lines line h.lines there }

@@ -1,0 +1,4 @@
+pub mod Repeating
+pub mod Standing
+pub mod Resembling
+pub mod Laws
