@@ -1,20 +1,76 @@
--- The answer to a schedule is one to the input that spells it, and what tells that a drawn schedule sends too much is its answer.
-use Rattle.std.proofs.Common.{◌≡◌, ℕ, true, false, List, Ok, inl, inr, refl, sym, subst}
-use Rattle.std.specs.Prelude.{Result, Err, IfOk}
-use Rattle.jp_types.specs.declared.cause.Cause.{Cause}
+-- The answer to a schedule is one to the input that spells it, and holds what the laws say of its run.
+use Rattle.std.proofs.Common.{◌≡◌, ℕ, ◌≤◌, true, List, Some, Ok, inl, inr, refl, sym, ap, subst, ◌∙◌}
+use Rattle.std.specs.Prelude.{Option, IfSome, Result, Err, IfOk, ◌⊎◌}
+use Rattle.std.specs.Io.KnownBytes.{Appends}
 use Rattle.jp_types.specs.declared.status.Status.{Status}
 use Rattle.jp_types.specs.declared.status.Status.TheVariants as status
+use Rattle.jp_types.specs.Faults.{Rose}
+use Rattle.turn_laws.proofs.StateFitting.{states-read}
+use Rattle.cluster.specs.declared.event.Run.{Run}
 use Rattle.cluster.specs.declared.schedule.Schedule.{Schedule}
 use Rattle.cluster.specs.Schedule.{read_schedule}
-use Rattle.cluster.specs.Drawing.{IsDrawnPast}
+use Rattle.cluster.specs.Drawing.{IsDrawn, IsDrawnPast}
+use Rattle.cluster.specs.Fitting.{IsFit}
+use Rattle.cluster.specs.Generator.{generate, summary}
+use Rattle.cluster.specs.Run.{sends_too_much}
+use Rattle.cluster.specs.Runs.{Runs, RunsPast}
+use Rattle.cluster.specs.Text.{show}
+use Rattle.cluster_laws.specs.Laws.{IsSchedule}
+use Rattle.cluster_laws.proofs.ReadFit.{within, schedules_within}
+use Rattle.cluster_laws.proofs.Whole as whole
+use Rattle.run_laws.specs.Laws as run_laws
+use Rattle.run_laws.proofs.Whole.{runs_alike, runs_past_alike, drawn_alike, drawn_past_alike, generated_is_runnable}
 use Rattle.jpaxos.specs.declared.answer.Answer.{Answer}
-use Rattle.jpaxos.specs.Answers.{Fits, IsDrawnAnswer, IsRunAnswer, IsAnswer}
+use Rattle.jpaxos.specs.Answers.{Fits, IsShown, IsRunnable, IsDrawnAnswer, IsRunAnswer, IsAnswer, IsSummary, IsClusterStatus, IsTold, Answers}
+use Rattle.jpaxos.specs.Headline.{Headline}
 use Rattle.jpaxos.specs.Words.{refusal}
 
+-- ---- The laws of a run
+
+-- the laws hold of the run of a schedule within the limits
+headline : (s : Schedule) → IsSchedule s → Headline s
+headline s h =
+    record {
+      world_run = record { run = whole.world_run s states-read h; same = whole.world_same s states-read h; shown = whole.all_shown s states-read h };
+      one_list = record { stand = whole.one_list s states-read h; states = whole.states_listed s states-read h; known = whole.known_same s states-read h };
+      at_most_once = record { first = whole.at_most_once s; life = whole.executes_once s states-read h };
+      replies = record { shown = whole.replies s states-read h; first = whole.first_shows_none s states-read h };
+      recovering_is_silent = whole.recovering_is_silent s states-read h;
+      rejoins_exactly = record { met = whole.rejoins s states-read h; due = whole.rejoins_due s states-read h };
+    }
+
+-- a schedule within its ranges is one whose run is that of the model
+runnable : (s : Schedule) → IsFit s → run_laws.IsRunnable s
+runnable s h = record { schedule_is = within s h; more = h.head.some; some = h.head.open_window; window = h.head.window_limit }
+
+-- ---- The text of a run
+
+-- the text of a run of a schedule is that of its run by the model
+pub shown_as_run : (s : Schedule) (run : Run) (text : List ℕ) → IsFit s → Runs s run → text ≡ show run → IsShown s text
+shown_as_run s run text fit runs is =
+    let told = runs_alike s run (runnable s fit) runs in
+    record { within = told.within; shown = is ∙ ap show told.run_is }
+
+-- a run that sends too much is the model's, which does too
+pub sends_past : (s : Schedule) → IsFit s → RunsPast s → sends_too_much s ≡ true
+sends_past s fit past = runs_past_alike s (runnable s fit) past
+
+-- the summary of the run of a drawn schedule is that of the model
+pub summed_as_drawn : (seed n steps : ℕ) (s : Schedule) (run : Run) (text : List ℕ) → 3 ≤ n → n ≤ 9 → steps ≤ 99998 → IsDrawn seed n steps s run → Runs s run → text ≡ summary run seed
+    → IsSummary seed n steps text
+summed_as_drawn seed n steps s run text more few most drawn runs is =
+    let same : s ≡ generate seed n steps = drawn_alike seed n steps s run more few most drawn in
+    let fit = generated_is_runnable seed n steps more few most in
+    let told = runs_alike (generate seed n steps) run fit (subst (λ (x : Schedule). Runs x run) same runs) in
+    record { within = told.within; summed = is ∙ ap (λ (r : Run). summary r seed) told.run_is; laws = headline (generate seed n steps) fit.schedule_is }
+
+-- ---- Answers
+
+-- the answer to a schedule is one to the input that spells it
 pub run_answers : (input text : List ℕ) (s : Schedule) (told : Status) → Fits input → read_schedule input ≡ Ok s → IsRunAnswer s text told → IsAnswer input text told
-run_answers input text s status.Done fits reads shown = record { fits = fits; schedule = s; reads = reads; shown = shown }
+run_answers input text s status.Done fits reads shown = record { fits = fits; schedule = s; reads = reads; shown = shown; laws = headline s (schedules_within input s reads) }
 run_answers input text s (status.TooLarge kind) fits reads h =
-    inr (inr (h.0, record { fits = fits; schedule = s; reads = reads; sends = h.1.0; told = h.1.1 }))
+    inr (inr (h.0, record { fits = fits; schedule = s; reads = reads; sends = h.1; told = h.2 }))
 run_answers input text s status.Usage fits reads h = absurd h
 run_answers input text s (status.BadSchedule line cause) fits reads h = absurd h
 run_answers input text s status.ReadFault fits reads h = absurd h
@@ -31,8 +87,44 @@ run_answers input text s (status.LogFull size) fits reads h = absurd h
 run_answers input text s (status.Disagrees what) fits reads h = absurd h
 run_answers input text s status.TraceFault fits reads h = absurd h
 
-pub drawn_past : {E : Type 0} (seed n steps : ℕ) (r : Result Answer E) → IsDrawnPast seed n steps → IfOk r (λ answer. answer.status ≡ status.TooLarge 3)
+-- what tells that a drawn schedule sends too much is its answer
+pub drawn_past : {E : Type 0} (seed n steps : ℕ) (r : Result Answer E) → 3 ≤ n → n ≤ 9 → steps ≤ 99998 → IsDrawnPast seed n steps → IfOk r (λ answer. answer.status ≡ status.TooLarge 3)
     → IfOk r (λ answer. answer.text ≡ refusal (status.TooLarge 3)) → IfOk r (λ answer. IsDrawnAnswer seed n steps answer.text answer.status)
-drawn_past seed n steps (Ok answer) sends is told =
-    subst (λ (s : Status). IsDrawnAnswer seed n steps answer.text s) (sym is) (refl, record { sends = sends; told = told })
-drawn_past seed n steps (Err e) sends is told = is
+drawn_past seed n steps (Ok answer) more few most sends is told =
+    subst (λ (s : Status). IsDrawnAnswer seed n steps answer.text s) (sym is) (refl, record { sends = drawn_past_alike seed n steps more few most sends; told = told })
+drawn_past seed n steps (Err e) more few most sends is told = is
+
+-- ---- Completeness
+
+-- an input that spells a schedule within the sizes is answered by no other status than Done, or for want of memory
+answered_done : (input text : List ℕ) (told : Status) → IsRunnable input → IsTold told → IsAnswer input text told → told ≡ status.Done
+answered_done input text status.Done may is answer = refl
+answered_done input text (status.BadSchedule line cause) may is answer = let a = answer.reads in let b = may.reads in absurd cc
+answered_done input text (status.TooLarge kind) may is (inl a) = let x = a.1.bytes in let y = may.fits.bytes in absurd cc
+answered_done input text (status.TooLarge kind) may is (inr (inl a)) = let x = a.1.lines in let y = may.fits.lines in absurd cc
+answered_done input text (status.TooLarge kind) may is (inr (inr a)) =
+    let reads = a.1.reads in
+    let own = may.reads in
+    let same : a.1.schedule ≡ may.schedule = cc in
+    let x = a.1.sends in
+    let y = may.within in
+    absurd cc
+answered_done input text _ may is answer = absurd is
+
+-- where nothing fails, an input that spells a schedule within the sizes is run, or memory is wanted
+pub is_complete : (told : Status) (left held held_after : Option (List ℕ)) (faults faults_after calls calls_after : ℕ) (input : List ℕ) → IsClusterStatus told
+    → (IsTold told → Answers left held held_after told) → (told ≡ status.ReadFault → Rose faults faults_after) → (told ≡ status.WriteFault → Rose calls calls_after)
+    → left ≡ Some input → IsRunnable input → ¬ Rose faults faults_after → ¬ Rose calls calls_after → (told ≡ status.Done) ⊎ (told ≡ status.NoMemory)
+is_complete told left held held_after faults faults_after calls calls_after input is answers read write known may no_read no_write = go told is refl
+  where
+    whole-answer : IsTold told → told ≡ status.Done
+    whole-answer t = let a = subst (λ (o : Option (List ℕ)). IfSome o (λ x. (text : List ℕ) × (IsAnswer x text told × Appends held held_after text))) known (answers t) in answered_done input a.0 told may t a.1.0
+
+    go : (x : Status) → IsClusterStatus x → told ≡ x → (told ≡ status.Done) ⊎ (told ≡ status.NoMemory)
+    go status.Done s e = inl e
+    go status.NoMemory s e = inr e
+    go status.ReadFault s e = absurd (no_read (read e))
+    go status.WriteFault s e = absurd (no_write (write e))
+    go (status.BadSchedule line cause) s e = inl (whole-answer (subst IsTold (sym e) tt))
+    go (status.TooLarge kind) s e = inl (whole-answer (subst IsTold (sym e) tt))
+    go _ s e = absurd s

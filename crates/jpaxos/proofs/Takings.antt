@@ -1,8 +1,8 @@
 -- What one read takes, and what it takes behind what was taken before.
-use Rattle.std.proofs.Common.{◌≡◌, ℕ, ◌+◌, ◌≤◌, List, [], ◌++◌, length, take, Option, Result, Ok, Err, MatchResult, arith}
+use Rattle.std.proofs.Common.{ℕ, ◌+◌, ◌≤◌, List, ◌++◌, length, Option, Result, Ok, Err, arith}
 use Rattle.std.specs.Io.{ReadsAtMost}
-use Rattle.std.specs.Io.KnownBytes.{Consumes, ReadConsumes, ConsumesCount, Keeps}
-use Rattle.std.proofs.KnownBytes.{Consumes-nil, Consumes-kept, Consumes-trans, ConsumesCount-from_read}
+use Rattle.std.specs.Io.KnownBytes.{Consumes, ReadConsumes}
+use Rattle.std.proofs.KnownBytes.{Consumes-kept, Consumes-trans, ConsumesCount-from_read}
 use Rattle.std.proofs.lemmas.List.{length-append}
 use Rattle.jpaxos.specs.Taking.{TakesAtMost}
 

@@ -1,16 +1,14 @@
 -- What a schedule is answered: the status, and the text that is written.
-use Rattle.std.specs.Prelude.{◌≡◌, ℕ, true, false, List, [], ◌∷◌, take, Option, IfSome, Ok, Err, ◌⊎◌}
+use Rattle.std.specs.Prelude.{◌≡◌, ℕ, true, false, List, take, Option, IfSome, Ok, Err, ◌⊎◌}
 use Rattle.std.specs.Io.KnownBytes.{Appends}
 use Rattle.jp_types.specs.declared.status.Status.{Status}
 use Rattle.jp_types.specs.declared.status.Status.TheVariants.{Done, Usage, BadSchedule, TooLarge, ReadFault, WriteFault, NoMemory}
 use Rattle.cluster.specs.declared.schedule.Schedule.{Schedule}
-use Rattle.cluster.specs.declared.event.Run.{Run}
 use Rattle.cluster.specs.Schedule.{Bad, is_too_long, has_too_many_lines, read_schedule}
-use Rattle.cluster.specs.Runs.{Runs, RunsPast}
-use Rattle.cluster.specs.Drawing.{IsDrawn, IsDrawnPast}
-use Rattle.cluster.specs.Lines.{HasLines}
+use Rattle.cluster.specs.Run.{run_of, sends_too_much}
 use Rattle.cluster.specs.Text.{show}
-use Rattle.cluster.specs.Generator.{summary}
+use Rattle.cluster.specs.Generator.{generate, summary}
+use Rattle.jpaxos.specs.Headline.{Headline}
 use Rattle.jpaxos.specs.Words.{refusal}
 
 -- an input within the sizes
@@ -18,25 +16,24 @@ pub record Fits (input : List ℕ) : Type 0 where
   pub bytes : is_too_long input ≡ false
   pub lines : has_too_many_lines input ≡ false
 
--- the text of a run of a schedule, whose events answer its lines
+-- the text of the run of a schedule
 pub record IsShown (schedule : Schedule) (text : List ℕ) : Type 0 where
-  pub run : Run
-  pub runs : Runs schedule run
-  pub lines : HasLines schedule run
-  pub shown : text ≡ show run
+  pub within : sends_too_much schedule ≡ false
+  pub shown : text ≡ show (run_of schedule)
 
 -- the answer to a schedule: its status, with its text
 abbrev pub IsRunAnswer : Schedule → List ℕ → Status → Type 0
 IsRunAnswer schedule text Done = IsShown schedule text
-IsRunAnswer schedule text (TooLarge kind) = (kind ≡ 3) × (RunsPast schedule × (text ≡ refusal (TooLarge 3)))
+IsRunAnswer schedule text (TooLarge kind) = (kind ≡ 3) × (sends_too_much schedule ≡ true) × (text ≡ refusal (TooLarge 3))
 IsRunAnswer schedule text _ = ⊥
 
--- an input that spells a schedule, and the text of a run of it
+-- an input that spells a schedule, and the text of its run, of which the laws hold
 pub record IsRunText (input text : List ℕ) : Type 0 where
   pub fits : Fits input
   pub schedule : Schedule
   pub reads : read_schedule input ≡ Ok schedule
   pub shown : IsShown schedule text
+  pub laws : Headline schedule
 
 -- an input whose first bad line is this one, and the line that tells it
 pub record IsBadLine (input text : List ℕ) (status : Status) (bad : Bad) : Type 0 where
@@ -60,7 +57,7 @@ pub record SendsTooManyBytes (input text : List ℕ) : Type 0 where
   pub fits : Fits input
   pub schedule : Schedule
   pub reads : read_schedule input ≡ Ok schedule
-  pub sends : RunsPast schedule
+  pub sends : sends_too_much schedule ≡ true
   pub told : text ≡ refusal (TooLarge 3)
 
 -- an input that is too large, by the limit that it passes: 1 for bytes, 2 for lines, 3 for sent bytes
@@ -102,17 +99,15 @@ IsTold _ = ⊥
 
 -- ---- Drawn schedules
 
--- the summary of the run of a drawn schedule
+-- the summary of the run of the schedule that a seed draws, of which the laws hold
 pub record IsSummary (seed n steps : ℕ) (text : List ℕ) : Type 0 where
-  pub schedule : Schedule
-  pub run : Run
-  pub drawn : IsDrawn seed n steps schedule run
-  pub runs : Runs schedule run
-  pub summed : text ≡ summary run seed
+  pub within : sends_too_much (generate seed n steps) ≡ false
+  pub summed : text ≡ summary (run_of (generate seed n steps)) seed
+  pub laws : Headline (generate seed n steps)
 
--- a drawn schedule whose run sends too many bytes, and the line that tells it
+-- the schedule that a seed draws sends too many bytes, and the line that tells it
 pub record DrawsTooManyBytes (seed n steps : ℕ) (text : List ℕ) : Type 0 where
-  pub sends : IsDrawnPast seed n steps
+  pub sends : sends_too_much (generate seed n steps) ≡ true
   pub told : text ≡ refusal (TooLarge 3)
 
 -- the answer to a seed, a count of replicas and a count of lines: its status, with its text
@@ -145,3 +140,12 @@ IsUsageStatus Usage = Unit {0}
 IsUsageStatus WriteFault = Unit {0}
 IsUsageStatus NoMemory = Unit {0}
 IsUsageStatus _ = ⊥
+
+-- ---- Completeness
+
+-- an input within the sizes that spells a schedule whose run is
+pub record IsRunnable (input : List ℕ) : Type 0 where
+  pub fits : Fits input
+  pub schedule : Schedule
+  pub reads : read_schedule input ≡ Ok schedule
+  pub within : sends_too_much schedule ≡ false

@@ -76,7 +76,8 @@ fn bad_schedule(alloc: Global, line: u64, cause: Cause) -> Result<Answer, NoMemo
     })
 }
 
-/// The answer to an input that spells a schedule: the text of its run.
+/// The answer to a schedule: the text of its run.
+#[tactic(auto, using(crate::proofs::Answering::sends_past))]
 fn run_text(alloc: Global, schedule: &Schedule) -> Result<Answer, NoMemory>
     requires { IsFit schedule.now }
     ensures { IfOk result (λ answer. IsRunAnswer schedule.now answer.text answer.status) }
@@ -109,6 +110,7 @@ pub fn answer_to(alloc: Global, input: &[u8]) -> Result<Answer, NoMemory>
 pub fn answer_drawn(alloc: Global, seed: u64, n: u8, steps: u32) -> Result<Answer, NoMemory>
     requires some { 3 ≤ n }
     requires few { n ≤ 9 }
+    requires steps { steps ≤ 99998 }
     ensures { IfOk result (λ answer. IsDrawnAnswer seed n steps answer.text answer.status) }
 {
     match generate_run(alloc, seed, n, steps) {

@@ -1,9 +1,9 @@
 //! The calls that the program makes.
 
-ghost use Rattle.std.specs.Prelude.{◌≡◌, ◌≢◌, ◌≤◌, ◌+◌, ℕ, map, take, string_bytes};
+ghost use Rattle.std.specs.Prelude.{◌≡◌, ◌≢◌, ◌≤◌, ◌+◌, ◌⊎◌, ℕ, List, Some, map, take, string_bytes};
 ghost use Rattle.std.specs.Io.KnownBytes.{Appends, IsAtEnd};
 ghost use Rattle.jp_types.specs.Faults.{Rose};
-ghost use Rattle.jpaxos.specs.Answers.{Answers, AnswersDrawn, BeginsAnswer, BeginsDrawn, IsClusterStatus, IsDrawnStatus, IsTold, IsUsageStatus};
+ghost use Rattle.jpaxos.specs.Answers.{Answers, AnswersDrawn, BeginsAnswer, BeginsDrawn, IsClusterStatus, IsDrawnStatus, IsRunnable, IsTold, IsUsageStatus};
 ghost use Rattle.jpaxos.specs.Taking.{TakesAtMost};
 ghost use Rattle.jpaxos.specs.Words.{IsCluster, IsGen, IsNoCommand, usage_line};
 
@@ -27,17 +27,12 @@ fn tell<K: Sink>(sink: &mut K, answer: &Answer) -> Status
     }
 }
 
-/// Reads a schedule from the source, runs it, and writes the text of its run.
-pub fn run_cluster<S: Source, K: Sink>(alloc: Global, source: &mut S, sink: &mut K) -> Status
+/// The same as `run_cluster`, whose last clause follows from these.
+fn answer_cluster<S: Source, K: Sink>(alloc: Global, source: &mut S, sink: &mut K) -> Status
     ensures status { IsClusterStatus result }
-
-    // A run, or a refusal of the input, is told whole, and nothing else is written.
     ensures told { IsTold result → Answers (S.left source.old) (K.held sink.old) (K.held sink.new) result }
-
-    // The input was read to its end, but where it has too many bytes, and then to one past the limit.
     ensures end { IsTold result → result ≢ Status.TooLarge 1 → IsAtEnd (S.left source.new) }
     ensures taken { TakesAtMost (INPUT_LIMIT + 1) (S.left source.old) (S.left source.new) }
-
     ensures read { result ≡ Status.ReadFault → Rose (S.faults source.old) (S.faults source.new) }
     ensures unread { result ≡ Status.ReadFault → K.held sink.new ≡ K.held sink.old }
     ensures write { result ≡ Status.WriteFault → Rose (K.faults sink.old) (K.faults sink.new) }
@@ -59,6 +54,33 @@ pub fn run_cluster<S: Source, K: Sink>(alloc: Global, source: &mut S, sink: &mut
         Ok(answer) => tell(sink, &answer),
         Err(_) => Status::NoMemory,
     }
+}
+
+/// Reads a schedule from the source, runs it, and writes the text of its run. What is told at Done is the text of the run of
+/// exactly the schedule that was read, of which the laws of `Headline` hold.
+#[tactic(auto, using(crate::proofs::Answering::is_complete))]
+pub fn run_cluster<S: Source, K: Sink>(alloc: Global, source: &mut S, sink: &mut K) -> Status
+    ensures status { IsClusterStatus result }
+
+    // A run, or a refusal of the input, is told whole, and nothing else is written.
+    ensures told { IsTold result → Answers (S.left source.old) (K.held sink.old) (K.held sink.new) result }
+
+    // The input was read to its end, but where it has too many bytes, and then to one past the limit.
+    ensures end { IsTold result → result ≢ Status.TooLarge 1 → IsAtEnd (S.left source.new) }
+    ensures taken { TakesAtMost (INPUT_LIMIT + 1) (S.left source.old) (S.left source.new) }
+
+    ensures read { result ≡ Status.ReadFault → Rose (S.faults source.old) (S.faults source.new) }
+    ensures unread { result ≡ Status.ReadFault → K.held sink.new ≡ K.held sink.old }
+    ensures write { result ≡ Status.WriteFault → Rose (K.faults sink.old) (K.faults sink.new) }
+    ensures begun { result ≡ Status.WriteFault → BeginsAnswer (S.left source.old) (K.held sink.old) (K.held sink.new) }
+    ensures memory { result ≡ Status.NoMemory → K.held sink.new ≡ K.held sink.old }
+
+    // An input within the sizes that spells a schedule is run, where nothing fails and memory is there.
+    ensures complete { (input : List ℕ) → S.left source.old ≡ Some input → IsRunnable input
+        → ¬ Rose (S.faults source.old) (S.faults source.new) → ¬ Rose (K.faults sink.old) (K.faults sink.new)
+        → (result ≡ Status.Done) ⊎ (result ≡ Status.NoMemory) }
+{
+    answer_cluster(alloc, source, sink)
 }
 
 /// Draws a schedule of `n` replicas by the seed, with so many lines between the first and the last, runs it, and writes
@@ -116,6 +138,10 @@ pub fn jpaxos_top<S: Source, K: Sink>(
     ensures cluster_end { IsTold result → result ≢ Status.TooLarge 1 → IsCluster (map string_bytes words.now) → IsAtEnd (S.left source.new) }
     ensures cluster_taken { IsCluster (map string_bytes words.now) → TakesAtMost (INPUT_LIMIT + 1) (S.left source.old) (S.left source.new) }
     ensures cluster_begun { result ≡ Status.WriteFault → IsCluster (map string_bytes words.now) → BeginsAnswer (S.left source.old) (K.held sink.old) (K.held sink.new) }
+
+    ensures cluster_complete { (input : List ℕ) → IsCluster (map string_bytes words.now) → S.left source.old ≡ Some input → IsRunnable input
+        → ¬ Rose (S.faults source.old) (S.faults source.new) → ¬ Rose (K.faults sink.old) (K.faults sink.new)
+        → (result ≡ Status.Done) ⊎ (result ≡ Status.NoMemory) }
 
     // The word `gen` with its operands is answered as `run_gen` answers, and nothing is read.
     ensures gen_status { (seed n steps : ℕ) → IsGen (map string_bytes words.now) seed n steps → IsDrawnStatus result }
