@@ -4,3 +4,4 @@ pub mod Lines
 pub mod Schedules
 pub mod Whole
 pub mod ReadFit
+pub mod Chosen

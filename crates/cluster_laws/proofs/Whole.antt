@@ -1,5 +1,5 @@
 -- The laws of the run of every schedule.
-use Rattle.std.proofs.Common.{◌≡◌, ℕ, zero, suc, ◌-◌, ◌≤◌, ◌<◌, arith, Bool, true, false, ◌&&◌, ◌||◌, List, [], ◌∷◌, ◌++◌, length, slice_get, if◌then◌else◌, ◌==◌, nat_lt, Option, Some, None, refl, sym, ap, subst, ◌∙◌, inl, inr, ⊎_elim, append-nil, append_assoc}
+use Rattle.std.proofs.Common.{◌≡◌, ℕ, zero, suc, ◌-◌, ◌≤◌, ◌<◌, arith, Bool, true, false, ◌&&◌, ◌||◌, List, [], ◌∷◌, ◌++◌, length, slice_get, if◌then◌else◌, ◌==◌, nat_lt, Option, Some, None, refl, sym, ap, subst, ◌∙◌, inl, inr, ⊎_elim, append-nil, append_assoc, le_refl}
 use Rattle.kv_service.specs.declared.outcome.Outcome.{Outcome}
 use Rattle.kv_service.specs.Service.{State, outcomes}
 use Rattle.kv_service.specs.StateBytes.{state_bytes}
@@ -9,10 +9,10 @@ use Rattle.paxos_world.specs.Setup.{In}
 use Rattle.paxos_world.specs.Life.{Life}
 use Rattle.jp_types.specs.Instances.{Batch}
 use Rattle.paxos_world.specs.World.{World, Sent, Move, Rejoin, Execute, CanRejoin, opening}
-use Rattle.paxos_world.specs.Trace.{Trace, Runs, Does, IsRun, end_of}
+use Rattle.paxos_world.specs.Trace.{Trace, Runs, Does, IsChosen, IsChosenIn, IsRun, end_of}
 use Rattle.paxos_world.specs.ListOf.{list_of}
 use Rattle.paxos_world.specs.Served.{Stands, OccursIn, TellsStatesIn}
-use Rattle.paxos_world.proofs.Listed.{run_of}
+use Rattle.paxos_world.proofs.Listed.{run_of, at-end, chosen-at-end}
 use Rattle.paxos_world.proofs.Listing.{list_of-is}
 use Rattle.paxos_world.proofs.Once.{first_once}
 use Rattle.paxos_world.proofs.Adopted.{one_chosen}
@@ -41,7 +41,7 @@ use Rattle.turn_laws.specs.Limits.{IsState, StatesRead}
 use Rattle.turn_laws.proofs.Sane.{SaneRun, sane-at}
 use Rattle.turn_laws.proofs.Sitting.{Placed, over-turn, over-retransmit}
 use Rattle.turn_laws.proofs.Opening.{opens}
-use Rattle.cluster_laws.specs.Laws.{FirstShowsNone, IsSchedule, setup_of_run, steps_of_run, list_of_run, steps_over, steps_after, world_after, after_lines, RunsAt, WorldRun, WorldSame, ShowsMoves, AllShown, OneList, StatesListed, KnownSame, AtMostOnce, ExecutesOnceIn, Replies, RecoveringIsSilent, Rejoins, RejoinsDue}
+use Rattle.cluster_laws.specs.Laws.{FirstShowsNone, IsChosenOver, IsSchedule, setup_of_run, steps_of_run, list_of_run, steps_over, steps_after, world_after, after_lines, RunsAt, WorldRun, WorldSame, ShowsMoves, AllShown, OneList, StatesListed, KnownSame, AtMostOnce, ExecutesOnceIn, Replies, RecoveringIsSilent, Rejoins, RejoinsDue}
 use Rattle.cluster_laws.proofs.Beside.{setup_at, IsUp, Beside, Matches}
 use Rattle.turn_laws.proofs.Rejoinable.{none-can}
 use Rattle.cluster_laws.proofs.Showing.{shows-both}
@@ -58,7 +58,7 @@ In-left-part x (y ∷ xs) ys (inr n) = inr (In-left-part x xs ys n)
 In-left-part x [] ys n = absurd n
 
 -- after any of its lines the cluster matches the world
-reached-by : (s : Schedule) → StatesRead → IsSchedule s → (lines more : List Line) → s.lines ≡ lines ++ more → Reached s.head (steps_after s lines) (after_lines s lines)
+pub reached-by : (s : Schedule) → StatesRead → IsSchedule s → (lines more : List Line) → s.lines ≡ lines ++ more → Reached s.head (steps_after s lines) (after_lines s lines)
 reached-by s reads is lines more e =
     reached s.head reads is.some lines (λ line n. is.lines line (subst (λ (xs : List Line). In line xs) (sym e) (In-left-part line lines more n)))
 
@@ -66,7 +66,7 @@ whole-is : (s : Schedule) → steps_of_run s ≡ steps_after s s.lines
 whole-is s = joined-run s
 
 -- the steps of the whole run are those of a prefix of the lines and those of the others
-parted : (s : Schedule) (lines more : List Line) → s.lines ≡ lines ++ more → steps_of_run s ≡ steps_after s lines ++ steps_over (after_lines s lines) more
+pub parted : (s : Schedule) (lines more : List Line) → s.lines ≡ lines ++ more → steps_of_run s ≡ steps_after s lines ++ steps_over (after_lines s lines) more
 parted s lines more e =
     whole-is s ∙ ap (λ (xs : List Line). steps_after s xs) e ∙ ap (λ ms. (first_event s.head).moves ++ ms) (steps-append (first_event s.head).cluster lines more)
     ∙ sym (append_assoc (first_event s.head).moves (steps_over (first_event s.head).cluster lines) (steps_over (after_lines s lines) more))
@@ -81,7 +81,7 @@ pub world_run : (s : Schedule) → StatesRead → IsSchedule s → WorldRun s
 world_run s reads is = (reached-all s reads is).run
 
 -- a replica that is up runs its life in the world
-runs-life : (s : Schedule) (moves : List Move) (cl : Cluster) → Reached s.head moves cl → (r : ℕ) (a : Running) → RunsAt cl r a → ((end_of (setup_of_run s) opening moves).replicas r).running ≡ Some a.stage.life
+pub runs-life : (s : Schedule) (moves : List Move) (cl : Cluster) → Reached s.head moves cl → (r : ℕ) (a : Running) → RunsAt cl r a → ((end_of (setup_of_run s) opening moves).replicas r).running ≡ Some a.stage.life
 runs-life s moves cl h r a up =
     let b = (h.matches.places r up.0 up.1).up a up.2 in
     subst (λ k. ((end_of (setup_of_run s) opening moves).replicas k).running ≡ Some a.stage.life) (ap (λ c. c.me) b.sits.config) b.sits.running
@@ -181,11 +181,11 @@ states_listed s reads is lines more e r a up x n = let h = listed s reads is lin
 
 -- ---- The run as a trace
 
-trace : (s : Schedule) → StatesRead → IsSchedule s → Trace
+pub trace : (s : Schedule) → StatesRead → IsSchedule s → Trace
 trace s reads is = run_of (setup_of_run s) is.few (steps_of_run s) (world_run s reads is)
 
 -- the life that runs after a prefix of the steps
-runs-part : (s : Schedule) (reads : StatesRead) (is : IsSchedule s) (before behind : List Move) (q : ℕ) (l : Life) → steps_of_run s ≡ before ++ behind
+pub runs-part : (s : Schedule) (reads : StatesRead) (is : IsSchedule s) (before behind : List Move) (q : ℕ) (l : Life) → steps_of_run s ≡ before ++ behind
     → ((end_of (setup_of_run s) opening before).replicas q).running ≡ Some l → Runs (trace s reads is) (length before) q l
 unfolding trace
 runs-part s reads is before behind q l e h =
@@ -229,6 +229,20 @@ rejoins_due s reads is lines more e r a up view can =
 
 pub at_most_once : (s : Schedule) → AtMostOnce s
 at_most_once s = first_once (list_of_run s)
+
+-- ---- What is chosen
+
+-- what is chosen by the votes at the end is chosen in the run
+pub chosen-over : (s : Schedule) (reads : StatesRead) (is : IsSchedule s) (view i : ℕ) (batch : Batch) → IsChosenOver s view i batch → IsChosen (trace s reads is) view i batch
+unfolding trace
+chosen-over s reads is view i batch h =
+    let ms = steps_of_run s in
+    (length ms, subst (λ (w : World). IsChosenIn s.head.n w view i batch) (sym (at-end (setup_of_run s) is.few ms (world_run s reads is) (length ms) (le_refl _))) h)
+
+-- what is chosen in the run is chosen by the votes at its end
+pub chosen-then : (s : Schedule) (reads : StatesRead) (is : IsSchedule s) (view i : ℕ) (batch : Batch) → IsChosen (trace s reads is) view i batch → IsChosenOver s view i batch
+unfolding trace
+chosen-then s reads is view i batch h = chosen-at-end (setup_of_run s) is.few (steps_of_run s) (world_run s reads is) view i batch h
 
 -- ---- What is known
 

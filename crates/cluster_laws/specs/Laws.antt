@@ -1,5 +1,5 @@
 -- What holds of the run of every schedule.
-use Rattle.std.specs.Prelude.{◌≡◌, ℕ, suc, ◌≤◌, ◌⊎◌, not, filter, List, [], ◌∷◌, ◌++◌, length, take, slice_get, Some, flat_map}
+use Rattle.std.specs.Prelude.{◌≡◌, ℕ, suc, ◌≤◌, ◌⊎◌, not, filter, List, [], ◌∷◌, ◌++◌, length, map, take, slice_get, Some, flat_map}
 use Rattle.std.specs.Option.{option_map}
 use Rattle.jp_types.specs.declared.mode.Phase.TheVariants.{Recovering}
 use Rattle.kv_service.specs.declared.outcome.Outcome.{Outcome}
@@ -10,15 +10,15 @@ use Rattle.paxos_world.specs.Setup.{Setup, In}
 use Rattle.paxos_world.specs.Life.{Life}
 use Rattle.jp_types.specs.Instances.{Batch}
 use Rattle.paxos_world.specs.World.{Replica, World, Sent, Move, Deed, Act, Rejoin, Execute, CanRejoin, opening}
-use Rattle.paxos_world.specs.Trace.{IsRun, end_of}
+use Rattle.paxos_world.specs.Trace.{IsChosenIn, IsRun, end_of}
 use Rattle.paxos_world.specs.ListOf.{list_of}
-use Rattle.paxos_world.specs.Served.{Stands, outcomes_from, FirstsDiffer, IsSilent}
+use Rattle.paxos_world.specs.Served.{IsListIn, Stands, outcomes_from, FirstsDiffer, IsSilent}
 use Rattle.cluster.specs.declared.line.Line.{Line}
 use Rattle.cluster.specs.declared.schedule.Schedule.{Schedule}
 use Rattle.paxos_world.specs.Shown.{shown_along, sends_along}
 use Rattle.cluster.specs.Cluster.{Running, Place, Cluster, Happened, kind_of}
 use Rattle.cluster.specs.Generator.{is_send}
-use Rattle.cluster.specs.Run.{first_event, event, cluster_after, moves_of_run}
+use Rattle.cluster.specs.Run.{first_event, event, event_of, cluster_after, last_of, moves_of_run, run_of}
 use Rattle.turn_laws.specs.Limits.{IsRequest}
 
 -- the request of a line, if it has one, is within the limits
@@ -120,6 +120,31 @@ abbrev pub KnownSame : Schedule → Type 0
 KnownSame s =
     (lines more lines' more' : List Line) → s.lines ≡ lines ++ more → s.lines ≡ lines' ++ more' → (r r' i : ℕ) (a a' : Running) (batch batch' : Batch)
     → RunsAt (after_lines s lines) r a → RunsAt (after_lines s lines') r' a' → a.stage.life.known i ≡ Some batch → a'.stage.life.known i ≡ Some batch' → batch ≡ batch'
+
+-- a batch is chosen for an instance by the votes of the whole run, in a view
+abbrev pub IsChosenOver : Schedule → ℕ → ℕ → Batch → Type 0
+IsChosenOver s view i batch = IsChosenIn s.head.n (end_of_run s) view i batch
+
+-- the one list has the chosen batch of each instance, up to the first instance that has none
+abbrev pub ListIsChosen : Schedule → Type 0
+ListIsChosen s = IsListIn s.head.n (end_of_run s) (list_of_run s)
+
+-- an instance is chosen with one batch alone, in whatever views
+abbrev pub OneIsChosen : Schedule → Type 0
+OneIsChosen s = (i view view' : ℕ) (batch batch' : Batch) → IsChosenOver s view i batch → IsChosenOver s view' i batch' → batch ≡ batch'
+
+-- what a replica knows of an instance, after any line, is chosen
+abbrev pub KnownIsChosen : Schedule → Type 0
+KnownIsChosen s =
+    (lines more : List Line) → s.lines ≡ lines ++ more → (r i : ℕ) (a : Running) (batch : Batch) → RunsAt (after_lines s lines) r a → a.stage.life.known i ≡ Some batch
+    → (view : ℕ) × IsChosenOver s view i batch
+
+-- the run has one event a line, in order, which is what happens at that line, and it ends with what runs then
+pub record IsTold (s : Schedule) : Type 0 where
+  pub first : slice_get (run_of s).events 0 ≡ Some (event_of (Line.Cluster s.head) (first_event s.head))
+  pub lines : (lines more : List Line) (line : Line) → s.lines ≡ lines ++ line ∷ more → slice_get (run_of s).events (suc (length lines)) ≡ Some (event_of line (event (after_lines s lines) line))
+  pub count : length (run_of s).events ≡ suc (length s.lines)
+  pub last : (run_of s).last ≡ map (λ place. last_of place.running) (after_lines s s.lines).places
 
 -- at most once: over the one list each client's number is First once at most
 abbrev pub AtMostOnce : Schedule → Type 0

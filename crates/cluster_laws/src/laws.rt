@@ -3,7 +3,7 @@
 ghost use Rattle.std.specs.Prelude.{◌≡◌, ℕ, List, Ok};
 ghost use Rattle.cluster.specs.declared.schedule.Schedule.{Schedule};
 ghost use Rattle.cluster.specs.Schedule.{read_schedule};
-ghost use Rattle.cluster_laws.specs.Laws.{IsSchedule, WorldRun, WorldSame, AllShown, OneList, StatesListed, KnownSame, AtMostOnce, ExecutesOnceIn, Replies, FirstShowsNone, RecoveringIsSilent, Rejoins, RejoinsDue};
+ghost use Rattle.cluster_laws.specs.Laws.{IsSchedule, WorldRun, WorldSame, AllShown, OneList, StatesListed, KnownSame, ListIsChosen, OneIsChosen, KnownIsChosen, IsTold, AtMostOnce, ExecutesOnceIn, Replies, FirstShowsNone, RecoveringIsSilent, Rejoins, RejoinsDue};
 
 /// The steps of a schedule's run are a run of the world, and after each line the cluster's messages, lives and stable numbers are the world's.
 pub fn world_run()
@@ -21,6 +21,19 @@ pub fn one_list()
     ensures stand { (s : Schedule) → IsSchedule s → OneList s }
     ensures states { (s : Schedule) → IsSchedule s → StatesListed s }
     ensures known { (s : Schedule) → IsSchedule s → KnownSame s }
+{}
+
+/// The one list is the list of the batches that are chosen by the votes of the run, up to the first instance that is not
+/// chosen; an instance is chosen with one batch alone; and what a replica knows is chosen.
+pub fn list_is_chosen()
+    ensures list { (s : Schedule) → IsSchedule s → ListIsChosen s }
+    ensures one { (s : Schedule) → IsSchedule s → OneIsChosen s }
+    ensures known { (s : Schedule) → IsSchedule s → KnownIsChosen s }
+{}
+
+/// The run of a schedule has one event a line, in order, which is what happens at that line, and ends with what runs then.
+pub fn run_is_told()
+    ensures { (s : Schedule) → IsTold s }
 {}
 
 /// Over the one list each client's number is First once at most, and a life executes an instance once at most.

@@ -16,6 +16,7 @@ use Rattle.cluster.specs.Run.{sends_too_much}
 use Rattle.cluster.specs.Runs.{Runs, RunsPast}
 use Rattle.cluster.specs.Text.{show}
 use Rattle.cluster_laws.specs.Laws.{IsSchedule}
+use Rattle.cluster_laws.proofs.Chosen as chosen
 use Rattle.cluster_laws.proofs.ReadFit.{within, schedules_within}
 use Rattle.cluster_laws.proofs.Whole as whole
 use Rattle.run_laws.specs.Laws as run_laws
@@ -31,8 +32,8 @@ use Rattle.jpaxos.specs.Words.{refusal}
 headline : (s : Schedule) → IsSchedule s → Headline s
 headline s h =
     record {
-      world_run = record { run = whole.world_run s states-read h; same = whole.world_same s states-read h; shown = whole.all_shown s states-read h };
-      one_list = record { stand = whole.one_list s states-read h; states = whole.states_listed s states-read h; known = whole.known_same s states-read h };
+      world_run = record { told = chosen.is_told s; run = whole.world_run s states-read h; same = whole.world_same s states-read h; shown = whole.all_shown s states-read h };
+      one_list = record { chosen = chosen.list_chosen s states-read h; one = chosen.one_is_chosen s states-read h; stand = whole.one_list s states-read h; states = whole.states_listed s states-read h; known = whole.known_same s states-read h; known_chosen = chosen.known_is_chosen s states-read h };
       at_most_once = record { first = whole.at_most_once s; life = whole.executes_once s states-read h };
       replies = record { shown = whole.replies s states-read h; first = whole.first_shows_none s states-read h };
       recovering_is_silent = whole.recovering_is_silent s states-read h;

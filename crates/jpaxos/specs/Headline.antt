@@ -2,24 +2,28 @@
 use Rattle.cluster.specs.declared.schedule.Schedule.{Schedule}
 use Rattle.cluster_laws.specs.Laws as laws
 
--- the steps of the run are steps of the world, each allowed where it comes; after each line its messages, lives and numbers are the world's; and each line shows just its steps
+-- the run has one event a line, which is what happens at it; the steps of the run are steps of the world, each allowed where it comes; after each line its messages, lives and numbers are the world's; and each line shows just its steps
 pub record IsWorldRun (s : Schedule) : Type 0 where
+  pub told : laws.IsTold s
   pub run : laws.WorldRun s
   pub same : laws.WorldSame s
   pub shown : laws.AllShown s
 
--- there is one list of batches: after each line the store of each replica that is up is the sequential one after a prefix of it, so is each state that it had or installed, and no two replicas know an instance with different batches
+-- there is one list of batches, the chosen ones: after each line the store of each replica that is up is the sequential one after a prefix of it, so is each state that it had or installed, and no two replicas know an instance with different batches, nor one that is not chosen
 pub record HasOneList (s : Schedule) : Type 0 where
+  pub chosen : laws.ListIsChosen s
+  pub one : laws.OneIsChosen s
   pub stand : laws.OneList s
   pub states : laws.StatesListed s
   pub known : laws.KnownSame s
+  pub known_chosen : laws.KnownIsChosen s
 
 -- over that list each request takes effect once at most, and a life executes an instance once at most
 pub record ExecutesOnce (s : Schedule) : Type 0 where
   pub first : laws.AtMostOnce s
   pub life : laws.ExecutesOnceIn s
 
--- each reply that is shown is the one of that list
+-- each reply of an execution that is shown is the one of that list
 pub record TellsReplies (s : Schedule) : Type 0 where
   pub shown : laws.Replies s
   pub first : laws.FirstShowsNone s
@@ -35,6 +39,6 @@ pub record Headline (s : Schedule) : Type 0 where
   pub one_list : HasOneList s
   pub at_most_once : ExecutesOnce s
   pub replies : TellsReplies s
-  -- a Recovering life promises, votes, launches, enters a view and answers nothing
+  -- a Recovering life does not promise, vote, launch, enter a view or answer a recovery
   pub recovering_is_silent : laws.RecoveringIsSilent s
   pub rejoins_exactly : RejoinsExactly s

@@ -75,7 +75,7 @@ pub fn run_cluster<S: Source, K: Sink>(alloc: Global, source: &mut S, sink: &mut
     ensures begun { result ≡ Status.WriteFault → BeginsAnswer (S.left source.old) (K.held sink.old) (K.held sink.new) }
     ensures memory { result ≡ Status.NoMemory → K.held sink.new ≡ K.held sink.old }
 
-    // An input within the sizes that spells a schedule is run, where nothing fails and memory is there.
+    // An input within the sizes that spells a schedule is run where nothing fails, but that memory may be wanted.
     ensures complete { (input : List ℕ) → S.left source.old ≡ Some input → IsRunnable input
         → ¬ Rose (S.faults source.old) (S.faults source.new) → ¬ Rose (K.faults sink.old) (K.faults sink.new)
         → (result ≡ Status.Done) ⊎ (result ≡ Status.NoMemory) }
