@@ -1,0 +1,10 @@
+pub mod Viewing
+pub mod Raising
+pub mod Asked
+pub mod Entering
+pub mod Quieting
+pub mod QuietItems
+pub mod Launching
+pub mod Settling
+pub mod Casting
+pub mod Voting

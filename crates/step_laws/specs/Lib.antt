@@ -1,0 +1,4 @@
+pub mod Kinds
+pub mod Views
+pub mod Settled
+pub mod Laws

@@ -1,0 +1,4 @@
+//! Which steps a turn of the model shows, exactly.
+#![tactic(auto)]
+
+pub mod laws;
