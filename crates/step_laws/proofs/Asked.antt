@@ -1,5 +1,5 @@
 -- Which steps of entering, promising and answering each item makes a turn show.
-use Rattle.std.proofs.Common.{◌≡◌, ℕ, suc, Bool, true, false, ◌&&◌, not, List, [], ◌∷◌, ◌++◌, nat_le, nat_lt, ◌==◌, Option, Some, None, is_some, if◌then◌else◌, refl, sym, ap, ◌∙◌, append_assoc, arith}
+use Rattle.std.proofs.Common.{◌≡◌, ℕ, suc, Bool, true, false, ◌&&◌, not, List, [], ◌∷◌, ◌++◌, nat_le, nat_lt, ◌==◌, Option, Some, None, is_some, if◌then◌else◌, refl, sym, ap, ◌∙◌, append_assoc, arith, append-nil}
 use Rattle.std.proofs.lemmas.Bool.Decides.{nat_tests}
 use Rattle.std.specs.Option.{unwrap_or}
 use Rattle.jp_types.specs.declared.message.Message.{Message}
@@ -18,7 +18,7 @@ use Rattle.paxos_world.specs.Learning.{horizon_to, notes, learn_check}
 use Rattle.paxos_world.specs.Messages.{promises, promises_if, on_prepare, votes_if, on_propose, vector_of, answers, on_recovery, on_alive}
 use Rattle.paxos_world.specs.Turn.{alive_of, counts_quiet, on_tick, on_tick_working, quiet_limit}
 use Rattle.step_laws.specs.Kinds.{shown_where}
-use Rattle.step_laws.proofs.Viewing.{append-nil, picks, shown_where-append, quiet-act, quiet-says_to_all, Narrow, quiet-votes_if, quiet-learn_check, quiet-query_where_due}
+use Rattle.step_laws.proofs.Viewing.{picks, shown_where-append, quiet-act, quiet-says_to_all, Narrow, quiet-votes_if, quiet-learn_check, quiet-query_where_due}
 use Rattle.step_laws.proofs.Raising.{entering, entering_of, picks-append, raised, raised-stage, raise-working, raised-up, suspected}
 
 -- ---- Promises and answers

@@ -1,5 +1,5 @@
 -- What is kept by an act that shows neither a vote nor a launch, is kept by each word of a turn that shows neither.
-use Rattle.std.proofs.Common.{◌≡◌, ℕ, zero, suc, max, Bool, true, false, not, ◌&&◌, nat_lt, is_some, if◌then◌else◌, ◌==◌, ◌-◌, List, [], ◌∷◌, ◌++◌, Option, Some, None, refl, ap}
+use Rattle.std.proofs.Common.{◌≡◌, ℕ, zero, suc, max, Bool, true, false, not, ◌&&◌, nat_lt, is_some, ◌==◌, ◌-◌, List, [], ◌∷◌, Option, Some, None, refl}
 use Rattle.jp_types.specs.declared.message.Message.{Message}
 use Rattle.jp_types.specs.declared.message.Prepare.{Prepare}
 use Rattle.jp_types.specs.declared.message.PrepareOk.{PrepareOk}
@@ -12,7 +12,7 @@ use Rattle.paxos_world.specs.declared.step.Step.{Step}
 use Rattle.paxos_world.specs.Life.{Lead, Leading, No, Preparing, Leads, next_of}
 use Rattle.jp_types.specs.Instances.{Batch}
 use Rattle.paxos_world.specs.World.{Deed}
-use Rattle.paxos_world.specs.Stage.{Decision, Act, Show, Send, Hand, Save, Turned}
+use Rattle.paxos_world.specs.Stage.{Decision, Act, Turned}
 use Rattle.kv_service.specs.Parts.{Joiner}
 use Rattle.paxos_world.specs.Writing.{◌▹◌, when, when_some, for_each, for_range, with_stage, acts, does, shows, sends, says, saves, hands, others, sends_to_all, says_to_all}
 use Rattle.paxos_world.specs.Shown.{shown_in}
@@ -27,19 +27,7 @@ use Rattle.paxos_world.specs.Messages.{vector_of, promises, promises_if, on_prep
 use Rattle.paxos_world.specs.Settling.{adoption_end, open_place, next_handing, rejoins, settles_rejoin, adopts, adopts_where, becomes_prepared, settles_leading, launches_waiting, hands_on, settles}
 use Rattle.paxos_world.specs.Turn.{quiet_limit, alive_of, counts_quiet, on_tick_working}
 use Rattle.paxos_world.proofs.Turning.{SameLife}
-use Rattle.step_laws.specs.Kinds.{shown_where, is_launch, is_vote}
-
--- the steps that two lists of acts show and that pass a test are those of the first and then those of the second
-pub shown_where-append : (P : Step → Bool) (xs ys : List Act) → shown_where P (xs ++ ys) ≡ shown_where P xs ++ shown_where P ys
-shown_where-append P [] ys = refl
-shown_where-append P (Show step ∷ xs) ys = go (P step) (shown_where P (xs ++ ys)) (shown_where P xs) (shown_where P ys) (shown_where-append P xs ys)
-  where
-    go : (b : Bool) (k l m : List Step) → k ≡ l ++ m → (if b then step ∷ k else k) ≡ (if b then step ∷ l else l) ++ m
-    go true k l m e = ap (λ (zs : List Step). step ∷ zs) e
-    go false k l m e = e
-shown_where-append P (Send to m ∷ xs) ys = shown_where-append P xs ys
-shown_where-append P (Hand d ∷ xs) ys = shown_where-append P xs ys
-shown_where-append P (Save k ∷ xs) ys = shown_where-append P xs ys
+use Rattle.step_laws.specs.Kinds.{is_launch, is_vote}
 
 -- what is kept by a step that is neither a vote nor a launch, by one that is not shown, by an act that shows none, and by a change of the stage alone
 pub record Quiet (P : Turned → Type 0) : Type 0 where

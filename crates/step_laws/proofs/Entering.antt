@@ -1,5 +1,5 @@
 -- A turn enters, promises and answers exactly what its item makes it.
-use Rattle.std.proofs.Common.{◌≡◌, ℕ, suc, Bool, true, false, ◌&&◌, List, [], ◌∷◌, ◌++◌, nat_le, nat_lt, ◌==◌, Option, Some, None, is_some, length, if◌then◌else◌, refl, sym, ap, ◌∙◌}
+use Rattle.std.proofs.Common.{◌≡◌, ℕ, suc, Bool, true, false, ◌&&◌, List, [], ◌∷◌, ◌++◌, nat_le, nat_lt, ◌==◌, Option, Some, None, is_some, length, if◌then◌else◌, refl, sym, ap, ◌∙◌, append-nil}
 use Rattle.std.specs.Option.{unwrap_or}
 use Rattle.jp_types.specs.declared.message.Message.{Message}
 use Rattle.jp_types.specs.Views.{leader}
@@ -18,7 +18,7 @@ use Rattle.paxos_world.specs.Turn.{waiting_limit, on_item, untouched, turn}
 use Rattle.step_laws.specs.Kinds.{shown_where, is_enter, is_promise, is_answer}
 use Rattle.step_laws.specs.Laws.{EntersExactly, PromisesExactly, AnswersExactly}
 use Rattle.step_laws.specs.Views.{entered_view, enters, own_promise, asked_promise, recovery_answer}
-use Rattle.step_laws.proofs.Viewing.{append-nil, picks, quiet-when, quiet-some, Narrow, quiet-learn_check, quiet-on_query, quiet-on_batches, quiet-on_part, quiet-settles}
+use Rattle.step_laws.proofs.Viewing.{picks, quiet-when, quiet-some, Narrow, quiet-learn_check, quiet-on_query, quiet-on_batches, quiet-on_part, quiet-settles}
 use Rattle.step_laws.proofs.Raising.{entering_of, picks-append, suspected}
 use Rattle.step_laws.proofs.Asked.{prepare-shows, recovery-shows, alive-shows, propose-shows, none-entered, tick-shows}
 

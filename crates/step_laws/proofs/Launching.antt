@@ -1,5 +1,5 @@
 -- What the launches of settling show, and what they leave of the stage.
-use Rattle.std.proofs.Common.{◌≡◌, ℕ, zero, suc, ◌+◌, ◌-◌, max, min, Bool, true, false, ◌&&◌, not, List, [], ◌∷◌, ◌++◌, Option, Some, None, nat_lt, ◌==◌, if◌then◌else◌, inl, inr, refl, sym, ap, subst, ◌∙◌, arith}
+use Rattle.std.proofs.Common.{◌≡◌, ℕ, zero, suc, ◌+◌, ◌-◌, max, min, Bool, true, false, ◌&&◌, not, List, [], ◌∷◌, ◌++◌, Option, Some, None, nat_lt, ◌==◌, if◌then◌else◌, inl, inr, refl, sym, ap, subst, ◌∙◌, arith, append-nil, append_assoc}
 use Rattle.std.proofs.lemmas.Bool.Decides.{nat_tests, leb_tells}
 use Rattle.jp_types.specs.declared.message.Message.{Message}
 use Rattle.jp_types.specs.Instances.{Batch, span}
@@ -17,7 +17,7 @@ use Rattle.paxos_world.specs.Learning.{notes, learns, votes_for, propose_of, lau
 use Rattle.paxos_world.specs.Settling.{is_prepared, adoption_end, adopts, becomes_prepared, settles_leading, place_in, open_place, launches_waiting}
 use Rattle.step_laws.specs.Kinds.{shown_where, is_launch}
 use Rattle.step_laws.specs.Settled.{adopted_launches, launches_at_prepared, placed_from, launches_of_waiting}
-use Rattle.step_laws.proofs.Quieting.{behind-both, nil-behind, Calmly, Calm, ◌⊳◌, calm-when, calm-shows, calm-sends_all, calm-votes, shows-adds}
+use Rattle.step_laws.proofs.Quieting.{Calmly, Calm, ◌⊳◌, calm-when, calm-shows, calm-sends_all, calm-votes, shows-adds}
 use Rattle.step_laws.proofs.QuietItems.{calm-adopted}
 
 -- the constants, the view, what is known, the base and the leading are as they were
@@ -102,7 +102,7 @@ learnt-view false o i t = refl
 -- a list, one element, and what is behind it, where the element is told in other words
 pub joined : (xs ys zs : List Step) (x y : Step) (rest : List Step) → ys ≡ xs ++ x ∷ [] → x ≡ y → zs ≡ ys ++ rest → zs ≡ xs ++ y ∷ rest
 joined xs ys zs x y rest a b c =
-    c ∙ ap (λ (ws : List Step). ws ++ rest) a ∙ behind-both xs (x ∷ []) rest ∙ ap (λ (w : Step). xs ++ w ∷ rest) b
+    c ∙ ap (λ (ws : List Step). ws ++ rest) a ∙ append_assoc xs (x ∷ []) rest ∙ ap (λ (w : Step). xs ++ w ∷ rest) b
 
 -- the launch of a view, of a replica, and of a batch that are told in other words
 pub same-launch : (r q v w i : ℕ) (b d : Batch) → r ≡ q → v ≡ w → b ≡ d → Step.Launch r v i b ≡ Step.Launch q w i d
@@ -112,7 +112,7 @@ same-launch r q v w i b d x y z = cc
 pub adopts-adds : (s : Stage) (lead : Lead) (k i : ℕ) (t : Turned) → t.stage.config ≡ s.config → t.stage.life.view ≡ s.life.view
     → ((j : ℕ) → lead.adopted j ≡ adopted_by s.config.n (counted_report (setup_of s.config) s.config.me s.life) s.life j)
     → shown_where is_launch (for_range k i (adopts lead) t).acts ≡ shown_where is_launch t.acts ++ adopted_launches k s i
-adopts-adds s lead zero i t config view told = sym (nil-behind (shown_where is_launch t.acts))
+adopts-adds s lead zero i t config view told = sym (append-nil (shown_where is_launch t.acts))
 adopts-adds s lead (suc k) i t config view told =
     let a = t ▹ when (not (is_known t.stage i)) (when_some (decided_below t.stage.config.n lead.reports i) (learns i)) in
     let c = calm-adopted is_launch launch-calm lead i t in
@@ -128,13 +128,13 @@ adopts-adds s lead (suc k) i t config view told =
 
 -- becoming Prepared launches the adopted batches
 pub prepared-launches : (l : Leading) (t : Turned) → shown_where is_launch (settles_leading l t).acts ≡ shown_where is_launch t.acts ++ launches_at_prepared l t.stage
-prepared-launches No t = sym (nil-behind (shown_where is_launch t.acts))
-prepared-launches (Leads lead) t = sym (nil-behind (shown_where is_launch t.acts))
+prepared-launches No t = sym (append-nil (shown_where is_launch t.acts))
+prepared-launches (Leads lead) t = sym (append-nil (shown_where is_launch t.acts))
 prepared-launches (Preparing first) t = go (is_prepared t.stage first)
   where
     go : (b : Bool) → shown_where is_launch (when b (becomes_prepared first) t).acts
         ≡ shown_where is_launch t.acts ++ (if b then adopted_launches (adoption_end t.stage first - max first t.stage.base) t.stage (max first t.stage.base) else [])
-    go false = sym (nil-behind (shown_where is_launch t.acts))
+    go false = sym (append-nil (shown_where is_launch t.acts))
     go true =
         let s = t.stage in
         let end = adoption_end s first in
@@ -187,7 +187,7 @@ pub waiting-adds : (s : Stage) (lead : Lead) (next : ℕ) (batches : List Batch)
     → t.stage.base ≡ s.base → t.stage.life.leading ≡ Leads lead → lead.next ≡ next
     → shown_where is_launch (launches_waiting batches t).acts
     ≡ shown_where is_launch t.acts ++ placed_from s.config.me s.life.view next (min (first_undecided s + s.config.window) (span_end s)) batches
-waiting-adds s lead next [] t config view known base leading same = sym (nil-behind (shown_where is_launch t.acts))
+waiting-adds s lead next [] t config view known base leading same = sym (append-nil (shown_where is_launch t.acts))
 waiting-adds s lead next (batch ∷ batches) t config view known base leading same =
     let a = t ▹ with_stage (λ s. record s { waiting = batches }) in
     let h = launches-adds next batch a in
@@ -210,7 +210,7 @@ waiting-adds s lead next (batch ∷ batches) t config view known base leading sa
         → (b : Bool) → shown_where is_launch (when_some (number_if b next) (λ i t. launches_waiting batches (t ▹ with_stage (λ s. record s { waiting = batches }) ▹ launches i batch)) t).acts
         ≡ shown_where is_launch t.acts ++ (if b then Step.Launch s.config.me s.life.view next batch ∷ placed_from s.config.me s.life.view (suc next) (min (first_undecided s + s.config.window) (span_end s)) batches else [])
     go one true = one
-    go one false = sym (nil-behind (shown_where is_launch t.acts))
+    go one false = sym (append-nil (shown_where is_launch t.acts))
 
 -- without a place nothing is launched
 pub waiting-none : (batches : List Batch) (t : Turned) → open_place t.stage ≡ None → launches_waiting batches t ≡ t
@@ -220,7 +220,7 @@ waiting-none (batch ∷ batches) t e = ap (λ (o : Option ℕ). when_some o (λ 
 -- the waiting batches are launched by how the stage leads
 pub waiting-launches : (l : Leading) (t : Turned) → t.stage.life.leading ≡ l → shown_where is_launch (launches_waiting t.stage.waiting t).acts ≡ shown_where is_launch t.acts ++ launches_of_waiting l t.stage
 waiting-launches No t e =
-    ap (λ (u : Turned). shown_where is_launch u.acts) (waiting-none t.stage.waiting t (ap (λ (l : Leading). place_in l t.stage) e)) ∙ sym (nil-behind (shown_where is_launch t.acts))
+    ap (λ (u : Turned). shown_where is_launch u.acts) (waiting-none t.stage.waiting t (ap (λ (l : Leading). place_in l t.stage) e)) ∙ sym (append-nil (shown_where is_launch t.acts))
 waiting-launches (Preparing first) t e =
-    ap (λ (u : Turned). shown_where is_launch u.acts) (waiting-none t.stage.waiting t (ap (λ (l : Leading). place_in l t.stage) e)) ∙ sym (nil-behind (shown_where is_launch t.acts))
+    ap (λ (u : Turned). shown_where is_launch u.acts) (waiting-none t.stage.waiting t (ap (λ (l : Leading). place_in l t.stage) e)) ∙ sym (append-nil (shown_where is_launch t.acts))
 waiting-launches (Leads lead) t e = waiting-adds t.stage lead lead.next t.stage.waiting t refl refl refl refl e refl

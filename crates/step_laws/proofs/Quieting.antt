@@ -1,5 +1,5 @@
 -- Words that show no step which passes a test, and leave the constants as they are.
-use Rattle.std.proofs.Common.{◌≡◌, ℕ, zero, suc, ◌+◌, ◌-◌, ◌%◌, Bool, true, false, ◌&&◌, not, List, [], ◌∷◌, ◌++◌, Option, Some, None, nat_lt, is_some, ◌==◌, if◌then◌else◌, refl, ap, ◌∙◌}
+use Rattle.std.proofs.Common.{◌≡◌, ℕ, zero, suc, ◌+◌, ◌-◌, ◌%◌, Bool, true, false, ◌&&◌, not, List, [], ◌∷◌, ◌++◌, Option, Some, None, nat_lt, is_some, ◌==◌, if◌then◌else◌, refl, ◌∙◌, append-nil}
 use Rattle.jp_types.specs.declared.message.Message.{Message}
 use Rattle.jp_types.specs.declared.message.SnapshotPart.{SnapshotPart}
 use Rattle.jp_types.specs.Instances.{Batch, peer}
@@ -9,7 +9,7 @@ use Rattle.kv_service.specs.StateReading.{state_in}
 use Rattle.kv_service.specs.Parts.{Joiner, is_joined, joined_bytes, takes_part, with_part}
 use Rattle.paxos_world.specs.declared.step.Step.{Step}
 use Rattle.paxos_world.specs.World.{Deed}
-use Rattle.paxos_world.specs.Stage.{Snapshot, Stage, Decision, Act, Show, Send, Hand, Save, Turned}
+use Rattle.paxos_world.specs.Stage.{Snapshot, Stage, Decision, Show, Send, Hand, Save, Turned}
 use Rattle.paxos_world.specs.Writing.{◌▹◌, when, when_some, for_each, for_range, with_stage, does, shows, sends, says, saves, hands, others, sends_to_all, says_to_all}
 use Rattle.paxos_world.specs.Logs.{first_undecided, is_known, is_in_span, tallied}
 use Rattle.paxos_world.specs.Retransmitting.{arms_prepare, arms_query, cancels_prepare, cancels_query, cancels_propose, cancels_proposes}
@@ -17,28 +17,7 @@ use Rattle.paxos_world.specs.Leading.{works, leads, is_view_ss, prepare_of, begi
 use Rattle.paxos_world.specs.Learning.{learns, learn_check, votes_for}
 use Rattle.paxos_world.specs.CatchingUp.{query_of, queries_peer, replied_batches, parts_of, on_query, learns_each, is_joining_above, joiner_for, keeps_joiner, installs, installs_if, has_part, puts_part, on_part}
 use Rattle.step_laws.specs.Kinds.{shown_where}
-
--- a list with nothing behind it
-pub nil-behind : {A : Type 0} (xs : List A) → xs ++ [] ≡ xs
-nil-behind [] = refl
-nil-behind (x ∷ xs) = ap (λ ys. x ∷ ys) (nil-behind xs)
-
--- lists one behind another, grouped either way
-pub behind-both : {A : Type 0} (xs ys zs : List A) → (xs ++ ys) ++ zs ≡ xs ++ (ys ++ zs)
-behind-both [] ys zs = refl
-behind-both (x ∷ xs) ys zs = ap (λ ws. x ∷ ws) (behind-both xs ys zs)
-
--- the shown steps of acts and of others behind them
-pub shown_where-append : (P : Step → Bool) (xs ys : List Act) → shown_where P (xs ++ ys) ≡ shown_where P xs ++ shown_where P ys
-shown_where-append P [] ys = refl
-shown_where-append P (Show step ∷ xs) ys = go (shown_where-append P xs ys) (P step)
-  where
-    go : shown_where P (xs ++ ys) ≡ shown_where P xs ++ shown_where P ys → (b : Bool) → (if b then step ∷ shown_where P (xs ++ ys) else shown_where P (xs ++ ys)) ≡ (if b then step ∷ shown_where P xs else shown_where P xs) ++ shown_where P ys
-    go e true = ap (λ (zs : List Step). step ∷ zs) e
-    go e false = e
-shown_where-append P (Send to m ∷ xs) ys = shown_where-append P xs ys
-shown_where-append P (Hand d ∷ xs) ys = shown_where-append P xs ys
-shown_where-append P (Save k ∷ xs) ys = shown_where-append P xs ys
+use Rattle.step_laws.proofs.Viewing.{shown_where-append}
 
 -- a turn went on and showed no step that passes the test; the constants are as they were
 pub record Calmly (P : Step → Bool) (t u : Turned) : Type 0 where
@@ -101,7 +80,7 @@ calm-shows P step d t e = record { shown = shown_where-append P t.acts (Show ste
   where
     go : (b : Bool) → b ≡ false → shown_where P t.acts ++ (if b then step ∷ [] else []) ≡ shown_where P t.acts
     go true h = absurd cc
-    go false h = nil-behind (shown_where P t.acts)
+    go false h = append-nil (shown_where P t.acts)
 
 -- a shown step that passes the test is one more
 pub shows-adds : (P : Step → Bool) (step : Step) (d : Deed) (t : Turned) → P step ≡ true → shown_where P (shows step d t).acts ≡ shown_where P t.acts ++ step ∷ []
@@ -113,19 +92,19 @@ shows-adds P step d t e = shown_where-append P t.acts (Show step ∷ []) ∙ go 
 
 -- a message is sent
 pub calm-sends : (P : Step → Bool) (to : ℕ) (m : Message) (t : Turned) → Calmly P t (sends to m t)
-calm-sends P to m t = record { shown = shown_where-append P t.acts (Send to m ∷ []) ∙ nil-behind (shown_where P t.acts); config = refl }
+calm-sends P to m t = record { shown = shown_where-append P t.acts (Send to m ∷ []) ∙ append-nil (shown_where P t.acts); config = refl }
 
 -- a message is sent with no step of its own
 pub calm-says : (P : Step → Bool) (to : ℕ) (m : Message) (t : Turned) → Calmly P t (says to m t)
-calm-says P to m t = record { shown = shown_where-append P t.acts (Send to m ∷ []) ∙ nil-behind (shown_where P t.acts); config = refl }
+calm-says P to m t = record { shown = shown_where-append P t.acts (Send to m ∷ []) ∙ append-nil (shown_where P t.acts); config = refl }
 
 -- the number is saved
 pub calm-saves : (P : Step → Bool) (k : ℕ) (t : Turned) → Calmly P t (saves k t)
-calm-saves P k t = record { shown = shown_where-append P t.acts (Save k ∷ []) ∙ nil-behind (shown_where P t.acts); config = refl }
+calm-saves P k t = record { shown = shown_where-append P t.acts (Save k ∷ []) ∙ append-nil (shown_where P t.acts); config = refl }
 
 -- a decision is handed on
 pub calm-hands : (P : Step → Bool) (d : Decision) (t : Turned) → Calmly P t (hands d t)
-calm-hands P d t = record { shown = shown_where-append P t.acts (Hand d ∷ []) ∙ nil-behind (shown_where P t.acts); config = refl }
+calm-hands P d t = record { shown = shown_where-append P t.acts (Hand d ∷ []) ∙ append-nil (shown_where P t.acts); config = refl }
 
 -- a message goes to all others
 pub calm-sends_all : (P : Step → Bool) (m : Message) (t : Turned) → Calmly P t (sends_to_all m t)

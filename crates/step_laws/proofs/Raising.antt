@@ -1,5 +1,5 @@
 -- Raising the view: which steps it shows, and what it leaves of the stage.
-use Rattle.std.proofs.Common.{◌≡◌, ℕ, Bool, true, false, ◌&&◌, not, List, [], ◌∷◌, ◌++◌, nat_lt, ◌==◌, Option, Some, None, if◌then◌else◌, refl, sym, ap, ◌∙◌, append_assoc}
+use Rattle.std.proofs.Common.{◌≡◌, ℕ, Bool, true, false, ◌&&◌, not, List, [], ◌∷◌, ◌++◌, nat_lt, ◌==◌, Option, Some, None, if◌then◌else◌, refl, sym, ap, ◌∙◌, append_assoc, append-nil}
 use Rattle.jp_types.specs.declared.message.Message.{Message}
 use Rattle.jp_types.specs.Views.{leader, next_led, number_if}
 use Rattle.paxos_world.specs.declared.step.Step.{Step}
@@ -11,7 +11,7 @@ use Rattle.paxos_world.specs.Logs.{first_undecided}
 use Rattle.paxos_world.specs.Retransmitting.{cancels_prepare, cancels_proposes}
 use Rattle.paxos_world.specs.Leading.{works, leads, is_view_ss, prepare_of, begin_phase_1, drop_waiting, raise_to, raise_up_to, suspect}
 use Rattle.step_laws.specs.Kinds.{shown_where}
-use Rattle.step_laws.proofs.Viewing.{append-nil, picks, shown_where-append, quiet-act, quiet-says_to_all}
+use Rattle.step_laws.proofs.Viewing.{picks, shown_where-append, quiet-act, quiet-says_to_all}
 
 -- ---- Entering a view
 

@@ -1,5 +1,5 @@
 -- Which steps settling shows: a rejoin, a Prepared step and launches.
-use Rattle.std.proofs.Common.{◌≡◌, ℕ, max, Bool, true, false, ◌&&◌, nat_lt, List, [], ◌∷◌, ◌++◌, Option, Some, None, if◌then◌else◌, refl, sym, ap, ◌∙◌}
+use Rattle.std.proofs.Common.{◌≡◌, ℕ, max, Bool, true, false, ◌&&◌, nat_lt, List, [], ◌∷◌, ◌++◌, Option, Some, None, if◌then◌else◌, refl, sym, ap, ◌∙◌, append-nil}
 use Rattle.paxos_world.specs.declared.step.Step.{Step}
 use Rattle.paxos_world.specs.Life.{Leading, No, Preparing, Leads}
 use Rattle.paxos_world.specs.World.{Deed}
@@ -13,7 +13,7 @@ use Rattle.paxos_world.specs.Turn.{on_item, untouched, turn}
 use Rattle.step_laws.specs.Kinds.{shown_where, is_rejoin, is_prepared_step, is_launch}
 use Rattle.step_laws.specs.Settled.{rejoins_in, prepared_by, launches_at_prepared, launches_of_waiting}
 use Rattle.step_laws.specs.Laws.{RejoinsExactly, PreparedExactly, LaunchesExactly}
-use Rattle.step_laws.proofs.Quieting.{nil-behind, Calm, calm-when, calm-saves, shows-adds}
+use Rattle.step_laws.proofs.Quieting.{Calm, calm-when, calm-saves, shows-adds}
 use Rattle.step_laws.proofs.QuietItems.{calm-item, calm-rejoin, calm-adopts, calm-prepared, calm-waiting, calm-hands_on}
 use Rattle.step_laws.proofs.Launching.{launch-calm, prepared-launches, waiting-launches}
 
@@ -27,7 +27,7 @@ prepared-calm = record { enter = λ r v. refl; promise = λ r v. refl; vote = λ
 
 -- rejoining shows itself
 pub rejoins-adds : (o : Option ℕ) (t : Turned) → shown_where is_rejoin (when_some o rejoins t).acts ≡ shown_where is_rejoin t.acts ++ rejoins_in t.stage.config.me o
-rejoins-adds None t = sym (nil-behind (shown_where is_rejoin t.acts))
+rejoins-adds None t = sym (append-nil (shown_where is_rejoin t.acts))
 rejoins-adds (Some view) t =
     let s = t.stage in
     let a = t ▹ when (is_view_ss s.config.mode && nat_lt s.life.mark view) (saves view) in
@@ -53,13 +53,13 @@ rejoins_exactly s item room =
 
 -- becoming Prepared shows itself
 pub prepared-adds : (l : Leading) (t : Turned) → shown_where is_prepared_step (settles_leading l t).acts ≡ shown_where is_prepared_step t.acts ++ prepared_by l t.stage
-prepared-adds No t = sym (nil-behind (shown_where is_prepared_step t.acts))
-prepared-adds (Leads lead) t = sym (nil-behind (shown_where is_prepared_step t.acts))
+prepared-adds No t = sym (append-nil (shown_where is_prepared_step t.acts))
+prepared-adds (Leads lead) t = sym (append-nil (shown_where is_prepared_step t.acts))
 prepared-adds (Preparing first) t = go (is_prepared t.stage first)
   where
     go : (b : Bool) → shown_where is_prepared_step (when b (becomes_prepared first) t).acts
         ≡ shown_where is_prepared_step t.acts ++ (if b then Step.Prepared t.stage.config.me t.stage.life.view (max (adoption_end t.stage first) (first_undecided t.stage)) ∷ [] else [])
-    go false = sym (nil-behind (shown_where is_prepared_step t.acts))
+    go false = sym (append-nil (shown_where is_prepared_step t.acts))
     go true =
         let s = t.stage in
         let end = adoption_end s first in

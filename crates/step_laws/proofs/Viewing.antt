@@ -1,5 +1,5 @@
 -- Which steps that pass a test the words of a turn show: the basic words, and the words that show none of a narrow test.
-use Rattle.std.proofs.Common.{◌≡◌, ℕ, zero, suc, ◌-◌, max, Bool, true, false, ◌&&◌, not, List, [], ◌∷◌, ◌++◌, nat_lt, ◌==◌, Option, Some, None, is_some, if◌then◌else◌, refl, ap, ◌∙◌}
+use Rattle.std.proofs.Common.{◌≡◌, ℕ, zero, suc, ◌-◌, max, Bool, true, false, ◌&&◌, not, List, [], ◌∷◌, ◌++◌, nat_lt, ◌==◌, Option, Some, None, is_some, if◌then◌else◌, refl, ap, ◌∙◌, append-nil}
 use Rattle.jp_types.specs.declared.message.Message.{Message}
 use Rattle.jp_types.specs.declared.message.SnapshotPart.{SnapshotPart}
 use Rattle.jp_types.specs.declared.message.Propose.{Propose}
@@ -21,11 +21,6 @@ use Rattle.paxos_world.specs.CatchingUp.{query_of, queries_peer, query_where_due
 use Rattle.paxos_world.specs.Messages.{votes_on, votes_if}
 use Rattle.paxos_world.specs.Settling.{rejoin_view, rejoins, settles_rejoin, is_prepared, adoption_end, adopts, adopts_where, becomes_prepared, settles_leading, settles_prepared, open_place, launches_waiting, settles_waiting, next_handing, hands_on, settles}
 use Rattle.step_laws.specs.Kinds.{shown_where}
-
--- nothing behind a list changes nothing
-pub append-nil : {A : Type 0} (xs : List A) → xs ++ [] ≡ xs
-append-nil [] = refl
-append-nil (x ∷ xs) = ap (λ ys. x ∷ ys) (append-nil xs)
 
 -- the steps among these that pass a test
 abbrev pub picks : (Step → Bool) → List Step → List Step

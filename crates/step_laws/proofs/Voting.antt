@@ -21,7 +21,8 @@ use Rattle.paxos_world.specs.Turn.{waiting_limit, on_item, on_tick_working, unto
 use Rattle.step_laws.specs.Kinds.{shown_where, is_launch, is_vote}
 use Rattle.step_laws.specs.Laws.{votes_of, VotesExactly}
 use Rattle.step_laws.specs.Views.{proposal_vote}
-use Rattle.step_laws.proofs.Casting.{shown_where-append, Quiet, k-when, k-sends_to_all, k-arms_propose, k-raise_up_to, k-suspect, k-horizon_to, k-notes, k-learn_check, k-query_where_due, k-on_query, k-on_batches, k-on_part, k-on_snapshot, k-on_prepare, k-on_prepare_ok, k-on_accept, k-on_recovery, k-on_recovery_answer, k-on_alive, k-on_tick_working, settles-keeps}
+use Rattle.step_laws.proofs.Casting.{Quiet, k-when, k-sends_to_all, k-arms_propose, k-raise_up_to, k-suspect, k-horizon_to, k-notes, k-learn_check, k-query_where_due, k-on_query, k-on_batches, k-on_part, k-on_snapshot, k-on_prepare, k-on_prepare_ok, k-on_accept, k-on_recovery, k-on_recovery_answer, k-on_alive, k-on_tick_working, settles-keeps}
+use Rattle.step_laws.proofs.Viewing.{shown_where-append}
 
 -- ---- What one act adds
 
