@@ -3,7 +3,7 @@
 
 For each seed it draws a schedule, with lines of every form, step by step over what the program has sent so far, and
 takes the text that the program writes. Then a copy of this repository, in a temporary folder, is given a
-crate of one proof for each schedule: that the text computed from the definitions of the crate `cluster` is this text.
+crate of one proof for each schedule: that the text computed from the definitions of the crate `schedules` is this text.
 `rt check` there computes them. It is no part of the gate: it needs python3, and some minutes.
 
 usage: tools/compare_runs.py FIRST_SEED COUNT LINES
@@ -146,7 +146,7 @@ def proof(lines, text):
     return (
         "-- Written by tools/compare_runs.py.\n"
         "use Rattle.std.specs.Prelude.{◌≡◌, ℕ, true, List, [], ◌∷◌, codes, refl}\n"
-        "use Rattle.cluster.proofs.Examples.{gives}\n\n"
+        "use Rattle.schedules.proofs.Examples.{gives}\n\n"
         "abbrev input : List (List ℕ)\ninput =\n" + listed(lines + ["end"]) + "\n"
         "abbrev text : List (List ℕ)\ntext =\n" + listed(text.splitlines()) + "\n"
         "pub holds : gives input text ≡ true\nunfolding gives\nholds = refl\n"
@@ -173,7 +173,7 @@ def main():
         os.makedirs(os.path.join(crate, "src"))
         os.makedirs(os.path.join(crate, "proofs"))
         with open(os.path.join(copy, "crates.txt"), "a") as crates:
-            crates.write("compared: " + standing_on("cluster") + " cluster\n")
+            crates.write("compared: " + standing_on("schedules") + " schedules\n")
         with open(os.path.join(crate, "src", "lib.rt"), "w") as root:
             root.write("//! Runs of the program beside the definitions.\n#![tactic(auto)]\n\n/// Nothing.\npub fn nothing() {}\n")
         for seed in range(first, first + count):

@@ -1,14 +1,14 @@
 -- Messages that are looked at, so that each is looked at once.
-use Rattle.std.proofs.Common.{◌≡◌, ◌≢◌, ◌⊎◌, inl, inr, ◌∙◌, ◌+◌, ◌-◌, ◌*◌, ◌/◌, ◌%◌, ◌^◌, ◌<◌, ◌≤◌, ◌==◌, ℕ, suc, Bool, true, false, List, [], ◌∷◌, ◌++◌, length, drop, get_or, refl, sym, ap, subst, arith, append-nil, append_assoc, length-append, length-drop, add-zero}
-use Rattle.std.specs.Prelude.{Option, Some, None, slice_index, slice_set, if◌then◌else◌}
+use Rattle.std.proofs.Common.{◌≡◌, ◌⊎◌, inl, inr, ◌∙◌, ◌+◌, ◌*◌, ◌/◌, ◌%◌, ◌^◌, ◌<◌, ◌≤◌, ◌==◌, ℕ, suc, Bool, true, false, List, [], ◌∷◌, ◌++◌, length, drop, get_or, refl, sym, ap, arith, append-nil, append_assoc, length-append, length-drop, add-zero}
+use Rattle.std.specs.Prelude.{Option, Some, None, slice_index, slice_set}
 use Rattle.std.proofs.lemmas.Bool.{cases_eq}
 use Rattle.std.proofs.lemmas.List.{length-set, drop-append-le, get_or-set_same, get_or-set_other}
 use Rattle.std.proofs.lemmas.Option.{get_or_from_slice_get, slice_get_read}
 use Rattle.std.proofs.Math.Seq.{drop-append_seam}
 use Rattle.std.proofs.Math.Nat.{mod-zero, mod-add-div, add-mul-mod_self_left}
 use Rattle.cluster.specs.declared.sent.Sent.{Sent}
-use Rattle.cluster.specs.Generator.{drawn}
-use Rattle.cluster.specs.declared.line.Line.{Line}
+use Rattle.schedules.specs.Generator.{drawn}
+use Rattle.schedules.specs.declared.line.Line.{Line}
 use Rattle.cluster.specs.Drawing.{AreLookedAt, delivers_next, Generating, IsLookedAt, message_from, message_to}
 
 -- a sum of 64 bits is the same where one part is cut to 64 bits

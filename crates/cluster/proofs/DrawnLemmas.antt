@@ -1,16 +1,16 @@
 -- Schedules that are being drawn.
-use Rattle.std.proofs.Common.{◌≡◌, ◌∙◌, ◌+◌, ◌<◌, ◌≤◌, ◌⊎◌, inl, inr, lit<, lit≤, ℕ, zero, suc, List, [], ◌∷◌, ◌++◌, length, replicate, refl, sym, ap, subst, arith, length-append}
+use Rattle.std.proofs.Common.{◌≡◌, ◌∙◌, ◌<◌, ◌⊎◌, inl, inr, lit<, ℕ, zero, suc, List, [], ◌∷◌, ◌++◌, length, replicate, refl, sym, ap, subst, arith, length-append}
 use Rattle.std.specs.Prelude.{slice_index}
 use Rattle.std.proofs.lemmas.List.{get_or-replicate, get_or_past, length-replicate}
 use Rattle.std.proofs.lemmas.Bool.{cases_order}
 use Rattle.paxos_world.specs.declared.step.Step.{Step}
-use Rattle.cluster.specs.declared.event.Event.{Event}
-use Rattle.cluster.specs.declared.line.Head.{Head}
-use Rattle.cluster.specs.declared.line.Line.{Line}
+use Rattle.schedules.specs.declared.event.Event.{Event}
+use Rattle.schedules.specs.declared.line.Head.{Head}
+use Rattle.schedules.specs.declared.line.Line.{Line}
 use Rattle.cluster.specs.declared.sent.Sent.{Sent}
-use Rattle.cluster.specs.Drawing.{AreLookedAt, Draws, DrawsFrom, drawn_head, Drawing, first_drawing, Generating, IsBeingDrawn, IsLookedAt, MadeBelow, next_line, Serves}
+use Rattle.cluster.specs.Drawing.{Draws, drawn_head, Drawing, first_drawing, Generating, IsBeingDrawn, IsLookedAt, next_line, Serves}
 use Rattle.cluster.specs.Runs.{RunsLine}
-use Rattle.cluster.specs.Stepping.{FirstStarts, fresh, Happens, Opens, Stepping}
+use Rattle.cluster.specs.Stepping.{FirstStarts, fresh, Opens, Stepping}
 use Rattle.cluster.proofs.DrawingLemmas.{looked_at_next, looked_at_still}
 use Rattle.cluster.proofs.GrowthLemmas.{Grows, grows_started, happens_grows}
 use Rattle.cluster.proofs.MadeLemmas.{next_more}

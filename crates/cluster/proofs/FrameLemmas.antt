@@ -1,5 +1,5 @@
 -- Acts that are shown and messages that are sent, one after another.
-use Rattle.std.proofs.Common.{◌≡◌, ℕ, suc, List, [], ◌∷◌, ◌++◌, length, refl, arith, length-append}
+use Rattle.std.proofs.Common.{◌≡◌, ℕ, List, ◌++◌, length, arith, length-append}
 use Rattle.protocol_core.specs.declared.act.Act.{Act}
 use Rattle.cluster.specs.declared.sent.Sent.{Sent}
 use Rattle.cluster.specs.Frames.{sent_of, number_after}

@@ -1,18 +1,17 @@
 -- Messages that were sent stay, and so do the constants of a run.
-use Rattle.std.proofs.Common.{◌≡◌, ◌∙◌, ℕ, Bool, true, false, List, [], ◌∷◌, ◌++◌, refl, sym, ap, subst, append-nil}
-use Rattle.std.specs.Prelude.{Option, Some, None, slice_get, if◌then◌else◌}
+use Rattle.std.proofs.Common.{◌≡◌, ◌∙◌, ℕ, Bool, true, false, List, [], ◌++◌, refl, sym, ap, append-nil}
+use Rattle.std.specs.Prelude.{Option, Some, None, slice_get}
 use Rattle.protocol_core.specs.declared.act.Act.{Act}
 use Rattle.replica_node.specs.declared.stage.LaneItem.{LaneItem}
 use Rattle.replica_node.specs.declared.stage.Stage.{Stage}
 use Rattle.replica_node.specs.declared.stage.Stage.TheVariants as stage
 use Rattle.batcher.specs.declared.fed.Fed.{Fed}
 use Rattle.protocol_core.specs.declared.item.Item.{Item}
-use Rattle.protocol_core.specs.declared.config.Config.{Config}
 use Rattle.replica_node.specs.Lanes.{is_full_at}
 use Rattle.replica_node.specs.Whole.{Whole}
-use Rattle.cluster.specs.declared.event.Event.{Event}
-use Rattle.cluster.specs.declared.line.Line.{Line}
-use Rattle.cluster.specs.declared.line.Word.{Word}
+use Rattle.schedules.specs.declared.event.Event.{Event}
+use Rattle.schedules.specs.declared.line.Line.{Line}
+use Rattle.schedules.specs.declared.line.Word.{Word}
 use Rattle.cluster.specs.Machine.{Machine}
 use Rattle.cluster.specs.declared.sent.Sent.{Sent}
 use Rattle.cluster.specs.Frames.{addressed, sent_by}

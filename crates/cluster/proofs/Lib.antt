@@ -1,33 +1,20 @@
-pub mod Fitting
 pub mod DrawingLemmas
 pub mod DrawnLemmas
 pub mod MadeLemmas
-pub mod Examples
 pub mod FrameLemmas
 pub mod GrowthLemmas
 pub mod MachineLemmas
 pub mod RunLemmas
 pub mod SteppingLemmas
-pub mod Words
-pub mod Lines
-pub mod Codes
-pub mod Worlds
-pub mod Allowance
-mod BadSchedules
-mod PlainPath
-mod NothingHappens
-mod OutOfOrder
-mod Repeats
-mod NextView
-mod FilledGap
-mod TwoLeaders
-mod TwoCrashes
-mod NotRejoined
-mod EndedPromise
-mod EndedAnswer
-mod RecoveringLeader
-mod AnswerWords
-mod CrashAndReturn
-mod CrashAndCatchUp
-mod BatchExamples
-mod Summaries
+pub mod Goals
+pub mod Acting
+pub mod Places
+pub mod Going
+pub mod Steps
+pub mod Putting
+pub mod Starting
+pub mod Events
+pub mod Sizes
+pub mod Fronts
+pub mod Ready
+pub mod Whole

@@ -13,8 +13,8 @@ use Rattle.replica_node.specs.declared.stage.Stage.{Stage}
 use Rattle.replica_node.specs.declared.stage.Stepped.{Stepped}
 use Rattle.replica_node.specs.declared.stage.Stepped.TheVariants as answer
 use Rattle.replica_node.specs.Steps.{Steps}
-use Rattle.cluster.specs.declared.line.Word.{Word}
-use Rattle.cluster.specs.declared.line.Word.TheVariants.{Done}
+use Rattle.schedules.specs.declared.line.Word.{Word}
+use Rattle.schedules.specs.declared.line.Word.TheVariants.{Done}
 use Rattle.cluster.specs.declared.machine.Answer.{Answer}
 use Rattle.cluster.specs.Machine.{Machine}
 use Rattle.cluster.specs.Machines.{BeginsBy, is_answered, IsAnswered, KeepsDisk, StepsIf, stored_on}

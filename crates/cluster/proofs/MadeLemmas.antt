@@ -1,11 +1,11 @@
 -- How many requests each client made, line by line.
-use Rattle.std.proofs.Common.{◌≡◌, ◌⊎◌, inl, inr, ◌<◌, ◌≤◌, ◌==◌, ℕ, suc, Bool, true, false, List, length, refl, sym, ap, subst, arith}
-use Rattle.std.specs.Prelude.{Option, Some, None, nat_lt, slice_get, slice_index, slice_set, if◌then◌else◌}
+use Rattle.std.proofs.Common.{◌≡◌, ◌⊎◌, inl, inr, ◌<◌, ◌≤◌, ◌==◌, ℕ, suc, Bool, true, false, List, length, arith}
+use Rattle.std.specs.Prelude.{Option, Some, None, nat_lt, slice_index, slice_set, if◌then◌else◌}
 use Rattle.std.proofs.lemmas.Bool.{cases_eq, cases_order}
 use Rattle.std.proofs.lemmas.List.{get_or-set_same, get_or-set_other, set_past}
-use Rattle.cluster.specs.Generator.{drawn}
+use Rattle.schedules.specs.Generator.{drawn}
 use Rattle.cluster.specs.Drawing.{after_draw, delivers_again, delivers_next, Drawing, Drawn, ends_or_begins, late_line, line_for, message_from, next_line, requests, suspects_or_ticks}
-use Rattle.cluster.specs.declared.line.Line.{Line}
+use Rattle.schedules.specs.declared.line.Line.{Line}
 use Rattle.cluster.specs.Stepping.{replica_at, Stepping}
 
 -- a client made at most one request more

@@ -1,12 +1,12 @@
 -- Runs that go on by a line.
-use Rattle.std.proofs.Common.{◌≡◌, ◌∙◌, ◌+◌, ◌<◌, ◌≤◌, ℕ, suc, List, [], ◌∷◌, ◌++◌, length, take, get_or, refl, sym, ap, subst, arith}
+use Rattle.std.proofs.Common.{◌≡◌, ◌∙◌, ◌+◌, ◌<◌, ℕ, List, [], ◌∷◌, ◌++◌, length, take, get_or, refl, sym, ap, subst, arith}
 use Rattle.std.proofs.lemmas.List.{take_more}
-use Rattle.cluster.specs.declared.event.Event.{Event}
-use Rattle.cluster.specs.declared.line.Head.{Head}
-use Rattle.cluster.specs.declared.line.Line.{Line}
+use Rattle.schedules.specs.declared.event.Event.{Event}
+use Rattle.schedules.specs.declared.line.Head.{Head}
+use Rattle.schedules.specs.declared.line.Line.{Line}
 use Rattle.cluster.specs.Drawing.{Drawing, Draws, DrawsFrom, drawn_head, first_drawing, next_line}
-use Rattle.cluster.specs.Lines.{lines_of_events}
-use Rattle.cluster.specs.declared.schedule.Schedule.{Schedule}
+use Rattle.schedules.specs.Lines.{lines_of_events}
+use Rattle.schedules.specs.declared.schedule.Schedule.{Schedule}
 use Rattle.cluster.specs.Runs.{Goes, OpensPast, PassesAt, Reaches, RunsPast}
 use Rattle.cluster.specs.Stepping.{Happens, Opens, Stepping}
 

@@ -1,6 +1,6 @@
 -- What the calls of a machine come to, line by line.
-use Rattle.std.proofs.Common.{◌≡◌, ◌≢◌, ◌∙◌, ℕ, Bool, true, false, List, [], ◌∷◌, ◌++◌, length, refl, sym, ap, subst, append-nil}
-use Rattle.std.specs.Prelude.{Option, Some, None, Result, Ok, Err, IfOk, OnOk, slice_get, slice_set, if◌then◌else◌}
+use Rattle.std.proofs.Common.{◌≡◌, ◌≢◌, ◌∙◌, ℕ, Bool, true, false, List, [], ◌++◌, length, refl, sym, ap, subst, append-nil}
+use Rattle.std.specs.Prelude.{Option, Some, None, Result, Ok, Err, IfOk, OnOk, slice_get, slice_set}
 use Rattle.std.specs.Option.{option_map}
 use Rattle.std.proofs.lemmas.List.{set-get_or}
 use Rattle.std.proofs.lemmas.Option.{get_or_from_slice_get}
@@ -10,18 +10,18 @@ use Rattle.replica_node.specs.declared.stage.LaneItem.{LaneItem}
 use Rattle.replica_node.specs.declared.stage.Stage.{Stage}
 use Rattle.replica_node.specs.declared.stage.Stage.TheVariants as stage
 use Rattle.replica_node.specs.declared.stages.Stages.{Stages}
-use Rattle.replica_node.specs.Lanes.{is_full_at, is_kind_of, after_put}
+use Rattle.replica_node.specs.Lanes.{is_full_at, after_put}
 use Rattle.replica_node.specs.Whole.{Whole}
-use Rattle.cluster.specs.declared.line.Word.{Word}
-use Rattle.cluster.specs.declared.line.Word.TheVariants.{Done, Full, Down, Up}
+use Rattle.schedules.specs.declared.line.Word.{Word}
+use Rattle.schedules.specs.declared.line.Word.TheVariants.{Done, Full, Down, Up}
 use Rattle.jp_types.specs.declared.memory.NoMemory.{NoMemory}
 use Rattle.cluster.specs.declared.machine.Answer.{Answer}
 use Rattle.cluster.specs.declared.stepper.Shown.{Shown}
 use Rattle.cluster.specs.Frames.{sent_by, shown_by}
 use Rattle.cluster.specs.Machine.{Machine}
 use Rattle.cluster.specs.declared.sent.Sent.{Sent}
-use Rattle.cluster.specs.Machines.{after_tick, has_full_lane, StepsIf, StepsOn, StartsOn, with_lane_item, with_tick, word_for_item, word_for_tick}
-use Rattle.cluster.specs.Stepping.{acted, Acts, AtUp, crashes, IsConfigAt, OnMachine, OnUp, Outcome, Puts, puts, quietly, refused, replica_at, Starts, StartsIf, Stepping, Takes, ticks, with_machine}
+use Rattle.cluster.specs.Machines.{after_tick, has_full_lane, StepsIf, StepsOn, StartsOn, with_lane_item, word_for_item, word_for_tick}
+use Rattle.cluster.specs.Stepping.{acted, Acts, AtUp, IsConfigAt, OnMachine, OnUp, Outcome, Puts, puts, refused, replica_at, Starts, StartsIf, Stepping, Takes, ticks, with_machine}
 
 -- a machine that is put back changes nothing
 pub machine_kept : (s : Stepping) (r : ℕ) (m : Machine) → slice_get s.machines r ≡ Some m → with_machine s r m ≡ s

@@ -1,17 +1,16 @@
 -- Schedules that are drawn by a seed, each line with the state of the run at that point, as the generator draws them.
 use Rattle.std.specs.Prelude.{◌≡◌, ◌<◌, ◌≤◌, ◌⊎◌, ℕ, suc, ◌-◌, Bool, List, [], ◌∷◌, ◌++◌, length, replicate, drop, count_by, nat_lt, ◌==◌, if◌then◌else◌, Option, Some, None, slice_get, slice_index, slice_set}
 use Rattle.jp_types.specs.declared.command.Command.TheVariants.{Put}
-use Rattle.jp_types.specs.declared.command.Request.{Request}
 use Rattle.jp_types.specs.Views.{majority}
 use Rattle.replica_node.specs.Whole.{Whole}
-use Rattle.cluster.specs.declared.event.Event.{Event}
-use Rattle.cluster.specs.declared.event.Run.{Run}
-use Rattle.cluster.specs.declared.line.Head.{Head}
-use Rattle.cluster.specs.declared.line.Line.{Line}
+use Rattle.schedules.specs.declared.event.Event.{Event}
+use Rattle.schedules.specs.declared.event.Run.{Run}
+use Rattle.schedules.specs.declared.line.Head.{Head}
+use Rattle.schedules.specs.declared.line.Line.{Line}
 use Rattle.cluster.specs.Machine.{Machine}
-use Rattle.cluster.specs.declared.schedule.Schedule.{Schedule}
+use Rattle.schedules.specs.declared.schedule.Schedule.{Schedule}
 use Rattle.cluster.specs.declared.sent.Sent.{Sent}
-use Rattle.cluster.specs.Generator.{next_word, drawn, mode_of_seed}
+use Rattle.schedules.specs.Generator.{next_word, drawn, mode_of_seed}
 use Rattle.cluster.specs.Machines.{is_away_by}
 use Rattle.cluster.specs.Runs.{OpensPast, PassesAt}
 use Rattle.cluster.specs.Stepping.{Stepping, Opens, Happens, replica_at, lasts_of}

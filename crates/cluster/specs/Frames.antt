@@ -4,7 +4,7 @@ use Rattle.jp_types.specs.Sizes.{frame_size}
 use Rattle.paxos_world.specs.declared.step.Step.{Step}
 use Rattle.protocol_core.specs.declared.act.Act.{Act}
 use Rattle.cluster.specs.declared.sent.Sent.{Sent}
-use Rattle.cluster.specs.Cluster.{kind_of}
+use Rattle.schedules.specs.Cluster.{kind_of}
 
 -- the bytes of all these frames
 abbrev pub frame_bytes : List Sent → ℕ

@@ -1,15 +1,15 @@
 -- Machines, each with a disk in memory, and the replicas that are up on them.
-use Rattle.std.specs.Prelude.{◌≡◌, ◌||◌, ℕ, Bool, true, false, List, [], length, replicate, if◌then◌else◌, Option, Some, None}
+use Rattle.std.specs.Prelude.{◌≡◌, ◌||◌, ℕ, Bool, true, false, List, [], replicate, if◌then◌else◌, Option, Some, None}
 use Rattle.stable_store.specs.Slots.{Loads, held, slots_in}
 use Rattle.batcher.specs.declared.fed.Fed.{Fed}
 use Rattle.paxos_world.specs.Counting.{is_recovering}
 use Rattle.protocol_core.specs.declared.act.Act.{Act}
 use Rattle.protocol_core.specs.declared.config.Config.{Config}
 use Rattle.protocol_core.specs.declared.item.Item.{Item}
-use Rattle.protocol_core.specs.declared.protocol.StartFault.{StartFault}
+use Rattle.protocol_stage.specs.declared.protocol.StartFault.{StartFault}
 use Rattle.protocol_core.specs.Starting.{opening}
 use Rattle.protocol_core.specs.Turned.{Turned}
-use Rattle.replica_node.specs.declared.last.Last.{Last}
+use Rattle.paxos_world.specs.declared.last.Last.{Last}
 use Rattle.replica_node.specs.declared.stage.LaneItem.{LaneItem}
 use Rattle.replica_node.specs.declared.stage.Stage.{Stage}
 use Rattle.replica_node.specs.declared.stage.Stage.TheVariants as stage
@@ -19,8 +19,8 @@ use Rattle.replica_node.specs.Beginning.{Begins}
 use Rattle.replica_node.specs.Lanes.{is_full_at, after_put}
 use Rattle.replica_node.specs.Steps.{Steps}
 use Rattle.replica_node.specs.Whole.{Whole}
-use Rattle.cluster.specs.declared.line.Word.{Word}
-use Rattle.cluster.specs.declared.line.Word.TheVariants.{Done, Empty, Full, Down, Up}
+use Rattle.schedules.specs.declared.line.Word.{Word}
+use Rattle.schedules.specs.declared.line.Word.TheVariants.{Done, Empty, Full, Down, Up}
 use Rattle.cluster.specs.Machine.{Machine}
 
 -- how many bytes a disk has

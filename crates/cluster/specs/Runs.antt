@@ -1,10 +1,10 @@
 -- Runs of schedules, each replica on a machine of its own.
 use Rattle.std.specs.Prelude.{◌≡◌, ◌≤◌, ◌<◌, ℕ, List, [], ◌∷◌, ◌++◌, length, take}
-use Rattle.cluster.specs.declared.event.Event.{Event}
-use Rattle.cluster.specs.declared.event.Run.{Run}
-use Rattle.cluster.specs.declared.line.Head.{Head}
-use Rattle.cluster.specs.declared.line.Line.{Line}
-use Rattle.cluster.specs.declared.schedule.Schedule.{Schedule}
+use Rattle.schedules.specs.declared.event.Event.{Event}
+use Rattle.schedules.specs.declared.event.Run.{Run}
+use Rattle.schedules.specs.declared.line.Head.{Head}
+use Rattle.schedules.specs.declared.line.Line.{Line}
+use Rattle.schedules.specs.declared.schedule.Schedule.{Schedule}
 use Rattle.cluster.specs.Frames.{frame_bytes, frame_limit}
 use Rattle.cluster.specs.Stepping.{Stepping, Opens, Happens, lasts_of}
 

@@ -5,17 +5,17 @@ use Rattle.batcher.specs.declared.fed.Fed.{Fed}
 use Rattle.protocol_core.specs.declared.act.Act.{Act}
 use Rattle.protocol_core.specs.declared.config.Config.{Config}
 use Rattle.protocol_core.specs.declared.item.Item.{Item}
-use Rattle.replica_node.specs.declared.last.Last.{Last}
+use Rattle.paxos_world.specs.declared.last.Last.{Last}
 use Rattle.replica_node.specs.declared.stage.LaneItem.{LaneItem}
 use Rattle.replica_node.specs.declared.stage.Stage.{Stage}
 use Rattle.replica_node.specs.declared.stage.Stage.TheVariants as stage
 use Rattle.replica_node.specs.Lanes.{is_full_at}
 use Rattle.replica_node.specs.Whole.{Whole}
-use Rattle.cluster.specs.declared.event.Event.{Event}
-use Rattle.cluster.specs.declared.line.Head.{Head}
-use Rattle.cluster.specs.declared.line.Line.{Line}
-use Rattle.cluster.specs.declared.line.Word.{Word}
-use Rattle.cluster.specs.declared.line.Word.TheVariants.{Done, Full, Down, Up, Unsent}
+use Rattle.schedules.specs.declared.event.Event.{Event}
+use Rattle.schedules.specs.declared.line.Head.{Head}
+use Rattle.schedules.specs.declared.line.Line.{Line}
+use Rattle.schedules.specs.declared.line.Word.{Word}
+use Rattle.schedules.specs.declared.line.Word.TheVariants.{Done, Full, Down, Up, Unsent}
 use Rattle.cluster.specs.Machine.{Machine}
 use Rattle.cluster.specs.declared.sent.Sent.{Sent}
 use Rattle.cluster.specs.Frames.{addressed, shown_by, sent_by}

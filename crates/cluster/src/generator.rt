@@ -22,14 +22,11 @@ ghost use Rattle.cluster.specs.Drawing.{
   suspects_or_ticks,
 };
 ghost use Rattle.cluster.specs.Frames.{frame_bytes, frame_limit};
-ghost use Rattle.cluster.specs.Generator.{drawn, mode_of_seed, next_word};
-ghost use Rattle.cluster.specs.Heads.{IsHead};
+ghost use Rattle.schedules.specs.Generator.{drawn, mode_of_seed, next_word};
+ghost use Rattle.schedules.specs.Heads.{IsHead};
 ghost use Rattle.cluster.specs.Runs.{OpensPast, PassesAt, Runs, RunsLine};
 ghost use Rattle.cluster.specs.Stepping.{replica_at};
 
-use crate::event::{Event, Run};
-use crate::line::{Head, Line};
-use crate::schedule::Schedule;
 use crate::sent::Sent;
 use crate::stepper::{RunFault, Stepper};
 use jp_types::command::{Command, Request};
@@ -39,6 +36,9 @@ use jp_types::message::ReplicaId;
 use jp_types::mode::Mode;
 use jp_types::octets::Octets;
 use jp_types::views::majority;
+use schedules::event::{Event, Run};
+use schedules::line::{Head, Line};
+use schedules::schedule::Schedule;
 use std::alloc::Global;
 use std::marker::Model;
 
@@ -420,8 +420,8 @@ pub fn generate(alloc: Global, seed: u64, n: u8, steps: u32) -> Result<Schedule,
 #[cfg(test)]
 mod tests {
     use super::*;
-    use crate::summary::summary;
-    use crate::text::show;
+    use schedules::summary::summary;
+    use schedules::text::show;
     use std::test::Fail;
 
     // The summary of the run that a seed draws, for 3 to 9 replicas, and the text of the run of its schedule.

@@ -26,18 +26,18 @@ ghost use Rattle.cluster.specs.Machines.{
 };
 ghost use Rattle.cluster.specs.Machine.{IsSound};
 
-use crate::line::Word;
 use batcher::fed::Fed;
 use jp_types::listed::Listed;
 use jp_types::memory::NoMemory;
 use jp_types::mode::Phase;
+use paxos_world::last::Last;
 use protocol_core::act::Act;
 use protocol_core::config::Config;
 use protocol_core::item::Item;
-use protocol_core::protocol::StartFault;
-use replica_node::last::Last;
+use protocol_stage::protocol::StartFault;
 use replica_node::replica::Replica;
 use replica_node::stage::{LaneItem, Stage, Stepped};
+use schedules::line::Word;
 use stable_store::memory::MemoryDisk;
 use std::alloc::Global;
 use std::marker::Model;

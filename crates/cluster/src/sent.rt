@@ -4,7 +4,7 @@ ghost use Rattle.std.specs.Prelude.{◌≡◌, ◌++◌, ◌∷◌, [], ◌==◌
 ghost use Rattle.std.specs.List.{slice_get};
 ghost use Rattle.std.specs.Option.{option_copied};
 ghost use Rattle.protocol_core.specs.declared.item.Item.{Item};
-ghost use Rattle.cluster.specs.Cluster.{kind_of};
+ghost use Rattle.schedules.specs.Cluster.{kind_of};
 ghost use Rattle.cluster.specs.Frames.{addressed, frame_bytes, frame_limit, sent_by, sent_of, shown_by, shown_of};
 
 use jp_types::listed::Listed;

@@ -7,10 +7,11 @@ ghost use Rattle.protocol_core.specs.declared.config.Config.{Config};
 ghost use Rattle.replica_node.specs.Lanes.{is_kind_of};
 ghost use Rattle.cluster.specs.declared.stepper.RunFault.TheVariants as fault;
 ghost use Rattle.cluster.specs.Frames.{addressed, frame_bytes, frame_limit, sent_by, shown_by};
-ghost use Rattle.cluster.specs.Heads.{IsHead};
-ghost use Rattle.cluster.specs.Lines.{HasLines};
+ghost use Rattle.schedules.specs.Heads.{IsHead};
+ghost use Rattle.schedules.specs.Lines.{HasLines};
 ghost use Rattle.cluster.specs.Machines.{is_away_by, word_for_item};
 ghost use Rattle.cluster.specs.Runs.{OpensPast, PassesAt, Runs, RunsPast};
+ghost use Rattle.cluster.specs.Standing.{FollowsFirst, FollowsLine};
 ghost use Rattle.cluster.specs.Stepping.{
   AtUp,
   ComesOf,
@@ -29,22 +30,22 @@ ghost use Rattle.cluster.specs.Stepping.{
   up_on,
 };
 
-use crate::event::{Event, Run};
-use crate::line::{Head, Line, Word};
 use crate::machine::{Answer, Machine};
-use crate::schedule::Schedule;
 use crate::sent::{Sent, SentMessages};
 use batcher::fed::Fed;
 use jp_types::command::Request;
 use jp_types::listed::Listed;
 use jp_types::memory::{Duplicate, NoMemory};
 use jp_types::message::ReplicaId;
+use paxos_world::last::Last;
 use paxos_world::step::Step;
 use protocol_core::config::Config;
 use protocol_core::item::Item;
-use replica_node::last::Last;
 use replica_node::replica::Replica;
 use replica_node::stage::{LaneItem, Stage};
+use schedules::event::{Event, Run};
+use schedules::line::{Head, Line, Word};
+use schedules::schedule::Schedule;
 use std::alloc::Global;
 use std::marker::Model;
 
@@ -75,12 +76,12 @@ pub struct Stepper {
 impl Model for Stepper {
     ghost use Rattle.std.specs.Prelude.{◌≡◌, List, length, refl};
     ghost use Rattle.std.specs.Coded.{code_by, coded×, coded_list};
-    ghost use Rattle.cluster.specs.contracts.line.Head as of_head;
+    ghost use Rattle.schedules.specs.contracts.line.Head as of_head;
     ghost use Rattle.cluster.specs.contracts.machine.Machine as of_machine;
     ghost use Rattle.cluster.specs.contracts.sent.Sent as of_sent;
-    ghost use Rattle.cluster.specs.declared.line.Head.{Head};
+    ghost use Rattle.schedules.specs.declared.line.Head.{Head};
     ghost use Rattle.cluster.specs.declared.sent.Sent.{Sent};
-    ghost use Rattle.cluster.specs.Heads.{IsHead};
+    ghost use Rattle.schedules.specs.Heads.{IsHead};
     ghost use Rattle.cluster.specs.Machine.{Machine};
     ghost use Rattle.cluster.specs.Stepping.{Stepping};
 
@@ -139,6 +140,19 @@ impl Stepper {
     pub fn start(alloc: Global, head: &Head) -> Result<(Stepper, Event), RunFault>
         requires { IsHead head.now }
         ensures opens { IfOk result (λ made. Opens head.now made.1 made.0) }
+
+        // The event is the model's, and the run stands where the model's does.
+        ensures follows { IfOk result (λ made. FollowsFirst head.now made.1 made.0) }
+        ensures within { IfOk result (λ made. frame_bytes made.0.sent ≤ frame_limit) }
+        ensures large { result ≡ Err RunFault.TooLarge → OpensPast head.now }
+    {
+        Stepper::begin(alloc, head)
+    }
+
+    // The first starts of all replicas, where they do not send too much.
+    fn begin(alloc: Global, head: &Head) -> Result<(Stepper, Event), RunFault>
+        requires { IsHead head.now }
+        ensures opens { IfOk result (λ made. Opens head.now made.1 made.0) }
         ensures within { IfOk result (λ made. frame_bytes made.0.sent ≤ frame_limit) }
         ensures large { result ≡ Err RunFault.TooLarge → OpensPast head.now }
     {
@@ -185,9 +199,24 @@ impl Stepper {
     /// One line after the first. After an error the run is of no use.
     pub fn event(&mut self, line: &Line) -> Result<Event, RunFault>
         ensures happens { IfOk result (λ event. Happens self.old line.now event self.new) }
+
+        // Where the run stands behind some lines of a schedule, the event is the model's, and it stands behind this line too.
+        ensures follows { IfOk result (λ event. FollowsLine self.old line.now event self.new) }
         ensures within { OnOk result (frame_bytes self.new.sent ≤ frame_limit) }
         ensures large { result ≡ Err RunFault.TooLarge → PassesAt line.now self.old }
     {
+        self.take(line)
+    }
+
+    // One line after the first, where it does not send too much.
+    fn take(&mut self, line: &Line) -> Result<Event, RunFault>
+        ensures happens { IfOk result (λ event. Happens self.old line.now event self.new) }
+        ensures head { IsHead self.old.head }
+        ensures within { OnOk result (frame_bytes self.new.sent ≤ frame_limit) }
+        ensures large { result ≡ Err RunFault.TooLarge → PassesAt line.now self.old }
+    {
+        // A field that is read tells the invariant: the constants are within their limits.
+        let _head = &self.head;
         let event = self.happen(line)?;
         self.check_frames()?;
         Ok(event)

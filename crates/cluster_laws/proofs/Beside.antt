@@ -23,11 +23,12 @@ use Rattle.turn_laws.proofs.Fitting.{Within, Good}
 use Rattle.turn_laws.specs.Limits.{IsRequest, IsBatch}
 use Rattle.turn_laws.proofs.Sane.{Sane, SaneRun}
 use Rattle.turn_laws.proofs.Sitting.{Sits, Over}
-use Rattle.cluster.specs.declared.line.Head.{Head}
-use Rattle.cluster.specs.declared.line.Word.{Word}
-use Rattle.cluster.specs.Batching.{Fed, Asked}
-use Rattle.cluster.specs.Cluster.{Running, Place, Cluster, Happened, config_of, with_running, sent_by, handed_by}
-use Rattle.cluster.specs.Run.{refused, quietly, done_by}
+use Rattle.schedules.specs.declared.line.Head.{Head}
+use Rattle.schedules.specs.declared.line.Word.{Word}
+use Rattle.paxos_world.specs.Batching.{Fed, Asked}
+use Rattle.paxos_world.specs.Replica.{Running, handed_by}
+use Rattle.schedules.specs.Cluster.{Place, Cluster, Happened, config_of, with_running, sent_by}
+use Rattle.schedules.specs.Run.{refused, quietly, done_by}
 use Rattle.turn_laws.specs.Nodes.{Onward, DecisionComes, ItemComes}
 
 -- the constants of a cluster's world

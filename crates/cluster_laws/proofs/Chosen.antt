@@ -4,10 +4,10 @@ use Rattle.paxos_world.proofs.Adopted.{one_chosen}
 use Rattle.paxos_world.proofs.Chosen.{known_are_chosen}
 use Rattle.paxos_world.proofs.Listing.{list_is_chosen}
 use Rattle.turn_laws.specs.Limits.{StatesRead}
-use Rattle.cluster.specs.declared.line.Line.{Line}
-use Rattle.cluster.specs.declared.schedule.Schedule.{Schedule}
-use Rattle.cluster.specs.Cluster.{Cluster}
-use Rattle.cluster.specs.Run.{first_event, event, event_of, events_of, cluster_after, run_of}
+use Rattle.schedules.specs.declared.line.Line.{Line}
+use Rattle.schedules.specs.declared.schedule.Schedule.{Schedule}
+use Rattle.schedules.specs.Cluster.{Cluster}
+use Rattle.schedules.specs.Run.{first_event, event, event_of, events_of, cluster_after, run_of}
 use Rattle.cluster_laws.specs.Laws.{IsSchedule, setup_of_run, steps_of_run, steps_over, steps_after, after_lines, ListIsChosen, OneIsChosen, KnownIsChosen, IsTold}
 use Rattle.cluster_laws.proofs.Whole.{world_run, trace, runs-part, parted, runs-life, reached-by, chosen-over, chosen-then}
 

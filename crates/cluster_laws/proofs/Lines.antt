@@ -28,17 +28,23 @@ use Rattle.turn_laws.proofs.Settled.{turn-settled}
 use Rattle.turn_laws.proofs.Rejoinable.{serves-none}
 use Rattle.paxos_world.specs.Settling.{rejoin_view}
 use Rattle.cluster_laws.specs.Laws.{IsLine}
-use Rattle.cluster.specs.declared.line.Line.{Line}
-use Rattle.cluster.specs.declared.line.Word.TheVariants.{Done, Empty, Full, Down, Up, Unsent}
-use Rattle.cluster.specs.Batching.{Fed, Asked, is_closed_by, held_after}
-use Rattle.cluster.specs.Cluster.{Running, Place, Cluster, Happened, lane_limit, is_full, config_of, with_running, sent_by, handed_by}
-use Rattle.cluster.specs.Run.{refused, puts_request, puts_item, puts_tick, batches, on_batch, on_protocol, with_snapshot, on_service, repeated, on_retransmit, on_crash, started, begins_by, begins, if_running, up_at, at_running, start_by, delivers, event}
+use Rattle.schedules.specs.declared.line.Line.{Line}
+use Rattle.schedules.specs.declared.line.Word.TheVariants.{Done, Empty, Full, Down, Up, Unsent}
+use Rattle.paxos_world.specs.Batching.{Fed, Asked, is_closed_by, held_after}
+use Rattle.paxos_world.specs.Replica.{Running, lane_limit, is_full, handed_by, started, Stepped, unless_full, batched, on_batch, on_protocol, with_snapshot, on_service, repeated, batch_step, protocol_step, service_step, retransmit_step}
+use Rattle.schedules.specs.Cluster.{Place, Cluster, Happened, config_of, with_running, sent_by}
+use Rattle.schedules.specs.Run.{refused, puts_request, puts_item, puts_tick, happens_by, takes_step, on_crash, begins_by, begins, if_running, up_at, at_running, start_by, delivers, event}
 use Rattle.cluster_laws.proofs.Beside.{setup_at, FedTrue, IsUp, Beside, Matches, length-set, Rest, rest-of, of-deeds, starts-kept, item-more, decision-more, matches-change, Happens, happens-refused, happens-quietly, happens-done, sent-same, handed-same}
 use Rattle.turn_laws.specs.Nodes.{DecisionComes, ItemComes}
 
 either-way : (cl : Cluster) (w : World) (b : Bool) (x y : Happened) → Happens cl w x → Happens cl w y → Happens cl w (if b then x else y)
 either-way cl w true x y h k = h
 either-way cl w false x y h k = k
+
+-- a step that a full lane may stop
+stopped-or : (cl : Cluster) (w : World) (r : ℕ) (place : Place) (b : Bool) (step : Stepped) → Matches cl w → Happens cl w (happens_by step cl r place) → Happens cl w (happens_by (unless_full b step) cl r place)
+stopped-or cl w r place true step h k = happens-refused cl w Full h
+stopped-or cl w r place false step h k = k
 
 module _ (cl : Cluster) (w : World) (r : ℕ) (place : Place) (a : Running) (h : Matches cl w) (there : slice_get cl.places r ≡ Some place) (up : place.running ≡ Some a) where
   my_up : IsUp (config_of cl.head r) place.starts w a
@@ -71,13 +77,13 @@ module _ (cl : Cluster) (w : World) (r : ℕ) (place : Place) (a : Running) (h :
   held-true false (Asked request) is = λ x n. In-snoc x request a.held n (my_up.held x) (λ e. subst (λ (y : Request). IsRequest y) (sym e) is)
   held-true false Fed.Tick is = my_up.held
 
-  happens-batches : (b : Bool) (fed : Fed) (more : List Fed) → ((x : Fed) → In x (fed ∷ more) → FedTrue x) → Happens cl w (batches b fed more cl r place a)
+  happens-batches : (b : Bool) (fed : Fed) (more : List Fed) → ((x : Fed) → In x (fed ∷ more) → FedTrue x) → Happens cl w (happens_by (batched b fed more a) cl r place)
   happens-batches true fed more are =
-      either-way cl w (is_full a.dispatcher) _ _ (happens-refused cl w Full h)
+      stopped-or cl w r place (is_full a.dispatcher) _ h
       (happens-quietly cl w r place a h there up (record a { requests = more; held = held_after true a.held fed; dispatcher = a.dispatcher ++ Closed a.held ∷ [] }) refl (pushed (Closed a.held) my_up.held) refl (λ x n. are x (inr n)) (held-true true fed (are fed (inl refl))))
   happens-batches false fed more are = happens-quietly cl w r place a h there up (record a { requests = more; held = held_after false a.held fed }) refl my_up.items refl (λ x n. are x (inr n)) (held-true false fed (are fed (inl refl)))
 
-  happens-on_batch : (fed : List Fed) → a.requests ≡ fed → Happens cl w (on_batch fed cl r place a)
+  happens-on_batch : (fed : List Fed) → a.requests ≡ fed → Happens cl w (happens_by (on_batch fed a) cl r place)
   happens-on_batch [] e = happens-refused cl w Empty h
   happens-on_batch (fed ∷ more) e = happens-batches (is_closed_by a.held fed) fed more (λ x n. my_up.requests x (subst (λ (xs : List Fed). In x xs) (sym e) n))
 
@@ -88,7 +94,7 @@ module _ (cl : Cluster) (w : World) (r : ℕ) (place : Place) (a : Running) (h :
     grown : (o : World) (ds : _) → end_of (setup_at cl.head) w (moves_of r ds) ≡ o → Within w.sent o.sent
     grown o ds e = (subst (λ (v : World). Rest r w v) e (rest-of (setup_at cl.head) r w (moves_of r ds) (of-deeds r ds))).sent
 
-    happens-on_protocol : (items : List Item) → a.dispatcher ≡ items → Happens cl w (on_protocol items cl r place a)
+    happens-on_protocol : (items : List Item) → a.dispatcher ≡ items → Happens cl w (happens_by (on_protocol items a) cl r place)
     happens-on_protocol [] e = happens-refused cl w Empty h
     happens-on_protocol (item ∷ more) e =
         happens-done cl w r place a h there up b t refl o items decisions refl refl (turn-settled (config_of cl.head r) place.starts w a.stage item room my_place my_up.sits h.good h.sane (was item (inl refl))) (turn-told a.stage item room)
@@ -116,9 +122,9 @@ module _ (cl : Cluster) (w : World) (r : ℕ) (place : Place) (a : Running) (h :
             ⊎_elim (λ m. decision-more a.stage.life t.stage.life d o.onward (my_up.decisions d m)) (λ m. o.handed d (subst (λ (ds : List Decision). In d ds) (handed-same t.acts) m))
             (In-append d a.decisions (handed_by t.acts) n)
 
-    happens-on_service : (ds : List Decision) → a.decisions ≡ ds → Happens cl w (on_service ds cl r place a)
+    happens-on_service : (ds : List Decision) → a.decisions ≡ ds → Happens cl w (happens_by (on_service ds a) cl r place)
     happens-on_service [] e = happens-refused cl w Empty h
-    happens-on_service (d ∷ more) e = either-way cl w (snaps && is_full a.dispatcher) _ _ (happens-refused cl w Full h) (happens-done cl w r place a h there up b t refl o (items snaps) decisions refl refl (serves-none d a.stage my_up.settled) (serves-told d a.stage (λ i batch f. subst (λ (x : Decision). DecisionComes a.stage.life x) f (was d (inl refl)))))
+    happens-on_service (d ∷ more) e = stopped-or cl w r place (snaps && is_full a.dispatcher) _ h (happens-done cl w r place a h there up b t refl o (items snaps) decisions refl refl (serves-none d a.stage my_up.settled) (serves-told d a.stage (λ i batch f. subst (λ (x : Decision). DecisionComes a.stage.life x) f (was d (inl refl)))))
       where
         snaps : Bool
         snaps = makes_snapshot a.stage.life.service d
@@ -147,10 +153,10 @@ module _ (cl : Cluster) (w : World) (r : ℕ) (place : Place) (a : Running) (h :
         decisions : (x : Decision) → In x more → DecisionComes t.stage.life x
         decisions x n = decision-more a.stage.life t.stage.life x o.onward (was x (inr n))
 
-    happens-on_retransmit : Happens cl w (on_retransmit cl r place a)
+    happens-on_retransmit : Happens cl w (happens_by (retransmit_step a) cl r place)
     happens-on_retransmit = go (retransmit a.stage a.cursor) refl
       where
-        go : (f : Option (ℕ × Turned)) → retransmit a.stage a.cursor ≡ f → Happens cl w (repeated f cl r place a)
+        go : (f : Option (ℕ × Turned)) → retransmit a.stage a.cursor ≡ f → Happens cl w (happens_by (repeated f a) cl r place)
         go None e = happens-refused cl w Empty h
         go (Some found) e =
             let k = over-retransmit (config_of cl.head r) place.starts w a.stage a.cursor found my_place my_up.sits h.good h.sane e in
@@ -324,13 +330,13 @@ module _ (cl : Cluster) (w : World) (reads : StatesRead) (h : Matches cl w) (two
   unfolding event
   happens-event (Line.Cluster head) is = happens-refused cl w Done h
   happens-event (Line.Request r request) is = happens-at (puts_request (Asked request)) r (λ place a p q. happens-puts_request cl w r place a h p q (Asked request) is)
-  happens-event (Line.Batch r) is = happens-at (λ c r place a. on_batch a.requests c r place a) r (λ place a p q. happens-on_batch cl w r place a h p q a.requests refl)
+  happens-event (Line.Batch r) is = happens-at (takes_step batch_step) r (λ place a p q. happens-on_batch cl w r place a h p q a.requests refl)
   happens-event (Line.Tick r) is = happens-at puts_tick r (λ place a p q. happens-puts_tick cl w r place a h p q)
   happens-event (Line.Suspect r) is = happens-at (puts_item Suspect) r (λ place a p q. happens-puts_item cl w r place a h p q Suspect tt)
   happens-event (Line.Deliver r m) is = happens-delivers (slice_get cl.sent m) r m refl
-  happens-event (Line.Protocol r) is = happens-at (λ c r place a. on_protocol a.dispatcher c r place a) r (λ place a p q. happens-on_protocol cl w r place a h p q reads two a.dispatcher refl)
-  happens-event (Line.Service r) is = happens-at (λ c r place a. on_service a.decisions c r place a) r (λ place a p q. happens-on_service cl w r place a h p q reads two a.decisions refl)
-  happens-event (Line.Retransmit r) is = happens-at on_retransmit r (λ place a p q. happens-on_retransmit cl w r place a h p q reads two)
+  happens-event (Line.Protocol r) is = happens-at (takes_step protocol_step) r (λ place a p q. happens-on_protocol cl w r place a h p q reads two a.dispatcher refl)
+  happens-event (Line.Service r) is = happens-at (takes_step service_step) r (λ place a p q. happens-on_service cl w r place a h p q reads two a.decisions refl)
+  happens-event (Line.Retransmit r) is = happens-at (takes_step retransmit_step) r (λ place a p q. happens-on_retransmit cl w r place a h p q reads two)
   happens-event (Line.Crash r) is = happens-at on_crash r (λ place a p q. happens-on_crash cl w r place a h p q reads two)
   happens-event (Line.Start r) is = happens-start r
   happens-event Line.End is = happens-refused cl w Done h

@@ -3,11 +3,11 @@ use Rattle.std.proofs.Common.{◌≡◌, ℕ, List, [], ◌∷◌, Ok, sym, subs
 use Rattle.std.specs.List.{All}
 use Rattle.std.proofs.lemmas.List.Elements.{All-head, All-tail}
 use Rattle.paxos_world.specs.Setup.{In}
-use Rattle.cluster.specs.declared.line.Line.{Line}
-use Rattle.cluster.specs.declared.schedule.Schedule.{Schedule}
-use Rattle.cluster.specs.Schedule.{read_schedule}
-use Rattle.cluster.specs.Fitting.{IsLineFit, IsFit}
-use Rattle.cluster.proofs.Fitting.{schedules_fit}
+use Rattle.schedules.specs.declared.line.Line.{Line}
+use Rattle.schedules.specs.declared.schedule.Schedule.{Schedule}
+use Rattle.schedules.specs.Schedule.{read_schedule}
+use Rattle.schedules.specs.Fitting.{IsLineFit, IsFit}
+use Rattle.schedules.proofs.Fitting.{schedules_fit}
 use Rattle.cluster_laws.specs.Laws.{IsLine, IsSchedule}
 
 -- a line within its ranges has a request within the limits, if it has one

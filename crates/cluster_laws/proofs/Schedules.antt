@@ -8,12 +8,12 @@ use Rattle.turn_laws.proofs.Goods.{opening_good}
 use Rattle.turn_laws.specs.Limits.{StatesRead}
 use Rattle.turn_laws.proofs.Sane.{SaneRun, sane-append, opening_sane}
 use Rattle.cluster_laws.specs.Laws.{IsLine, steps_over}
-use Rattle.cluster.specs.declared.line.Head.{Head}
-use Rattle.cluster.specs.declared.line.Line.{Line}
-use Rattle.cluster.specs.declared.line.Word.TheVariants.{Done}
-use Rattle.cluster.specs.declared.schedule.Schedule.{Schedule}
-use Rattle.cluster.specs.Cluster.{Place, Cluster, Happened, config_of, fresh_place, fresh_cluster}
-use Rattle.cluster.specs.Run.{refused, start_by, event, first_starts, first_event, happenings, cluster_after, moves_of_run}
+use Rattle.schedules.specs.declared.line.Head.{Head}
+use Rattle.schedules.specs.declared.line.Line.{Line}
+use Rattle.schedules.specs.declared.line.Word.TheVariants.{Done}
+use Rattle.schedules.specs.declared.schedule.Schedule.{Schedule}
+use Rattle.schedules.specs.Cluster.{Place, Cluster, Happened, config_of, fresh_place, fresh_cluster}
+use Rattle.schedules.specs.Run.{refused, start_by, event, first_starts, first_event, happenings, cluster_after, moves_of_run}
 use Rattle.cluster_laws.proofs.Beside.{setup_at, Beside, Matches, Happens}
 use Rattle.cluster_laws.proofs.Lines.{happens-start, happens-event}
 

@@ -11,9 +11,9 @@ use Rattle.paxos_world.specs.Trace.{end_of}
 use Rattle.paxos_world.specs.Stage.{Act, Show, Send, Hand, Save}
 use Rattle.paxos_world.specs.Shown.{shown_of_deed, shown_of, shown_along, sends_along, shown_in}
 use Rattle.paxos_world.proofs.Turning.{end-sent}
-use Rattle.cluster.specs.declared.line.Word.TheVariants.{Done}
-use Rattle.cluster.specs.Cluster.{Happened, kind_of, steps_of, sent_by}
-use Rattle.cluster.specs.Generator.{is_send}
+use Rattle.schedules.specs.declared.line.Word.TheVariants.{Done}
+use Rattle.schedules.specs.Cluster.{Happened, kind_of, steps_of, sent_by}
+use Rattle.schedules.specs.Generator.{is_send}
 use Rattle.cluster_laws.specs.Laws.{sends_from, ShowsMoves}
 
 abbrev is_other : Step → Bool

@@ -20,13 +20,14 @@ use Rattle.paxos_world.proofs.Chosen.{known_are_chosen}
 use Rattle.paxos_world.proofs.Runs.{can-at}
 use Rattle.paxos_world.proofs.Standing.{all_execute_listed, executes_once as executes_once_in, recovering_are_silent}
 use Rattle.paxos_world.proofs.Whole.{at-part, tells-of, listed_runs_stand}
-use Rattle.cluster.specs.declared.line.Head.{Head}
-use Rattle.cluster.specs.declared.line.Line.{Line}
-use Rattle.cluster.specs.declared.schedule.Schedule.{Schedule}
-use Rattle.cluster.specs.declared.line.Word.{Word}
-use Rattle.cluster.specs.declared.line.Word.TheVariants.{Done, Empty, Full, Down, Up, Unsent}
-use Rattle.cluster.specs.Cluster.{Running, Place, Cluster, Happened, lane_limit, is_full, config_of, fresh_cluster, steps_of}
-use Rattle.cluster.specs.Run.{refused, done_by, puts_request, puts_item, puts_tick, batches, on_batch, on_protocol, on_service, repeated, on_retransmit, on_crash, begins_by, begins, if_running, up_at, at_running, start_by, delivers, first_starts, first_event, event}
+use Rattle.schedules.specs.declared.line.Head.{Head}
+use Rattle.schedules.specs.declared.line.Line.{Line}
+use Rattle.schedules.specs.declared.schedule.Schedule.{Schedule}
+use Rattle.schedules.specs.declared.line.Word.{Word}
+use Rattle.schedules.specs.declared.line.Word.TheVariants.{Done, Empty, Full, Down, Up, Unsent}
+use Rattle.paxos_world.specs.Replica.{Running, lane_limit, is_full, Stepped, unless_full, batched, on_batch, on_protocol, on_service, repeated, batch_step, protocol_step, service_step, retransmit_step}
+use Rattle.schedules.specs.Cluster.{Place, Cluster, Happened, config_of, fresh_cluster, steps_of}
+use Rattle.schedules.specs.Run.{refused, done_by, puts_request, puts_item, puts_tick, happens_by, takes_step, on_crash, begins_by, begins, if_running, up_at, at_running, start_by, delivers, first_starts, first_event, event}
 use Rattle.paxos_world.specs.World.{Restore}
 use Rattle.std.specs.Option.{option_map}
 use Rattle.paxos_world.specs.Stage.{Config, setup_of, free_slots, Item, Came, Suspect, Decision, Decided, Installed, Act, Show, Send, Hand, Save, Turned}
@@ -35,7 +36,7 @@ use Rattle.paxos_world.specs.Serving.{makes_snapshot, serves}
 use Rattle.kv_service.specs.Dues.{is_due}
 use Rattle.paxos_world.specs.Turn.{untouched, turn, Opened, retransmit}
 use Rattle.paxos_world.specs.Turn as T
-use Rattle.cluster.specs.Batching.{Fed, Asked, is_closed_by}
+use Rattle.paxos_world.specs.Batching.{Fed, Asked, is_closed_by}
 use Rattle.turn_laws.proofs.Fitting.{executions, shown_by}
 use Rattle.turn_laws.specs.Limits.{IsState, StatesRead}
 use Rattle.turn_laws.proofs.Sane.{SaneRun, sane-at}
@@ -299,6 +300,10 @@ module _ (cl : Cluster) (w : World) (r i : ℕ) (shown : List Outcome) (h : Matc
   tells-if true x y k l = k
   tells-if false x y k l = l
 
+  tells-unless : (q : ℕ) (place : Place) (b : Bool) (step : Stepped) → Tells (happens_by step cl q place) → Tells (happens_by (unless_full b step) cl q place)
+  tells-unless q place true step k = tells-refused Full
+  tells-unless q place false step k = k
+
   tells-silent : (q : ℕ) (place : Place) (b : Running) (t : Turned) → shown_by t.acts ≡ [] → Tells (done_by cl q place b t)
   tells-silent q place b t none n = absurd (subst (λ (xs : List Step). In (Step.Execute r i shown) xs) none (steps-shown r i shown (length cl.sent) t.acts n))
 
@@ -335,30 +340,30 @@ module _ (cl : Cluster) (w : World) (r i : ℕ) (shown : List Outcome) (h : Matc
     tells-served (Decided j batch) b is = tells-decided j batch b is (is_due a.stage.life.service j) refl
     tells-served (Installed upto state) b is = tells-installed upto state b (nat_lt a.stage.life.service.executed upto)
 
-    tells-on_service : (ds : List Decision) → a.decisions ≡ ds → Tells (on_service ds cl q place a)
+    tells-on_service : (ds : List Decision) → a.decisions ≡ ds → Tells (happens_by (on_service ds a) cl q place)
     tells-on_service [] e = tells-refused Empty
     tells-on_service (d ∷ more) e =
-        tells-if (makes_snapshot a.stage.life.service d && is_full a.dispatcher) _ _ (tells-refused Full) (tells-served d _ (mine.decisions d (subst (λ (xs : List Decision). In d xs) (sym e) (inl refl))))
+        tells-unless q place (makes_snapshot a.stage.life.service d && is_full a.dispatcher) _ (tells-served d _ (mine.decisions d (subst (λ (xs : List Decision). In d xs) (sym e) (inl refl))))
 
-    tells-on_protocol : (items : List Item) → a.dispatcher ≡ items → Tells (on_protocol items cl q place a)
+    tells-on_protocol : (items : List Item) → a.dispatcher ≡ items → Tells (happens_by (on_protocol items a) cl q place)
     tells-on_protocol [] e = tells-refused Empty
     tells-on_protocol (item ∷ more) e =
         let room = lane_limit - length a.decisions in
         tells-silent q place _ (turn a.stage item room)
         (over-turn (config_of cl.head q) place.starts w a.stage item room my_place mine.sits h.good h.sane (mine.items item (subst (λ (xs : List Item). In item xs) (sym e) (inl refl)))).1
 
-    tells-on_retransmit : Tells (on_retransmit cl q place a)
+    tells-on_retransmit : Tells (happens_by (retransmit_step a) cl q place)
     tells-on_retransmit = go (retransmit a.stage a.cursor) refl
       where
-        go : (o : Option (ℕ × Turned)) → retransmit a.stage a.cursor ≡ o → Tells (repeated o cl q place a)
+        go : (o : Option (ℕ × Turned)) → retransmit a.stage a.cursor ≡ o → Tells (happens_by (repeated o a) cl q place)
         go None e = tells-refused Empty
         go (Some found) e = tells-silent q place _ found.1 (over-retransmit (config_of cl.head q) place.starts w a.stage a.cursor found my_place mine.sits h.good h.sane e).2
 
-    tells-batches : (b : Bool) (fed : Fed) (more : List Fed) → Tells (batches b fed more cl q place a)
-    tells-batches true fed more = tells-if (is_full a.dispatcher) _ _ (tells-refused Full) (λ n. absurd n)
+    tells-batches : (b : Bool) (fed : Fed) (more : List Fed) → Tells (happens_by (batched b fed more a) cl q place)
+    tells-batches true fed more = tells-unless q place (is_full a.dispatcher) _ (λ n. absurd n)
     tells-batches false fed more = λ n. absurd n
 
-    tells-on_batch : (fed : List Fed) → Tells (on_batch fed cl q place a)
+    tells-on_batch : (fed : List Fed) → Tells (happens_by (on_batch fed a) cl q place)
     tells-on_batch [] = tells-refused Empty
     tells-on_batch (fed ∷ more) = tells-batches (is_closed_by a.held fed) fed more
 
@@ -411,13 +416,13 @@ module _ (cl : Cluster) (w : World) (r i : ℕ) (shown : List Outcome) (h : Matc
   unfolding event
   tells-event (Line.Cluster head) = tells-refused Done
   tells-event (Line.Request q request) = tells-at (puts_request (Asked request)) q (λ place a p u. tells-if (is_full a.requests) _ _ (tells-refused Full) (λ n. absurd n))
-  tells-event (Line.Batch q) = tells-at (λ c r place a. on_batch a.requests c r place a) q (λ place a p u. tells-on_batch q place a p u a.requests)
+  tells-event (Line.Batch q) = tells-at (takes_step batch_step) q (λ place a p u. tells-on_batch q place a p u a.requests)
   tells-event (Line.Tick q) = tells-at puts_tick q (λ place a p u. tells-if (is_full a.requests || is_full a.dispatcher) _ _ (tells-refused Full) (λ n. absurd n))
   tells-event (Line.Suspect q) = tells-puts_item Suspect q
   tells-event (Line.Deliver q m) = tells-delivers (slice_get cl.sent m) q
-  tells-event (Line.Protocol q) = tells-at (λ c r place a. on_protocol a.dispatcher c r place a) q (λ place a p u. tells-on_protocol q place a p u a.dispatcher refl)
-  tells-event (Line.Service q) = tells-at (λ c r place a. on_service a.decisions c r place a) q (λ place a p u. tells-on_service q place a p u a.decisions refl)
-  tells-event (Line.Retransmit q) = tells-at on_retransmit q (λ place a p u. tells-on_retransmit q place a p u)
+  tells-event (Line.Protocol q) = tells-at (takes_step protocol_step) q (λ place a p u. tells-on_protocol q place a p u a.dispatcher refl)
+  tells-event (Line.Service q) = tells-at (takes_step service_step) q (λ place a p u. tells-on_service q place a p u a.decisions refl)
+  tells-event (Line.Retransmit q) = tells-at (takes_step retransmit_step) q (λ place a p u. tells-on_retransmit q place a p u)
   tells-event (Line.Crash q) = tells-at on_crash q (λ place a p u. tells-on_crash q place a p u)
   tells-event (Line.Start q) = tells-start q
   tells-event Line.End = tells-refused Done

@@ -13,12 +13,13 @@ use Rattle.paxos_world.specs.World.{Replica, World, Sent, Move, Deed, Act, Rejoi
 use Rattle.paxos_world.specs.Trace.{IsChosenIn, IsRun, end_of}
 use Rattle.paxos_world.specs.ListOf.{list_of}
 use Rattle.paxos_world.specs.Served.{IsListIn, Stands, outcomes_from, FirstsDiffer, IsSilent}
-use Rattle.cluster.specs.declared.line.Line.{Line}
-use Rattle.cluster.specs.declared.schedule.Schedule.{Schedule}
+use Rattle.schedules.specs.declared.line.Line.{Line}
+use Rattle.schedules.specs.declared.schedule.Schedule.{Schedule}
 use Rattle.paxos_world.specs.Shown.{shown_along, sends_along}
-use Rattle.cluster.specs.Cluster.{Running, Place, Cluster, Happened, kind_of}
-use Rattle.cluster.specs.Generator.{is_send}
-use Rattle.cluster.specs.Run.{first_event, event, event_of, cluster_after, last_of, moves_of_run, run_of}
+use Rattle.paxos_world.specs.Replica.{Running}
+use Rattle.schedules.specs.Cluster.{Place, Cluster, Happened, kind_of}
+use Rattle.schedules.specs.Generator.{is_send}
+use Rattle.schedules.specs.Run.{first_event, event, event_of, cluster_after, last_of, moves_of_run, run_of}
 use Rattle.turn_laws.specs.Limits.{IsRequest}
 
 -- the request of a line, if it has one, is within the limits

@@ -1,8 +1,8 @@
 //! The laws of every schedule's run.
 
 ghost use Rattle.std.specs.Prelude.{◌≡◌, ℕ, List, Ok};
-ghost use Rattle.cluster.specs.declared.schedule.Schedule.{Schedule};
-ghost use Rattle.cluster.specs.Schedule.{read_schedule};
+ghost use Rattle.schedules.specs.declared.schedule.Schedule.{Schedule};
+ghost use Rattle.schedules.specs.Schedule.{read_schedule};
 ghost use Rattle.cluster_laws.specs.Laws.{IsSchedule, WorldRun, WorldSame, AllShown, OneList, StatesListed, KnownSame, ListIsChosen, OneIsChosen, KnownIsChosen, IsTold, AtMostOnce, ExecutesOnceIn, Replies, FirstShowsNone, RecoveringIsSilent, Rejoins, RejoinsDue};
 
 /// The steps of a schedule's run are a run of the world, and after each line the cluster's messages, lives and stable numbers are the world's.

@@ -6,15 +6,15 @@ use Rattle.jp_types.specs.declared.status.Status.{Status}
 use Rattle.jp_types.specs.declared.status.Status.TheVariants as status
 use Rattle.jp_types.specs.Faults.{Rose}
 use Rattle.turn_laws.proofs.StateFitting.{states-read}
-use Rattle.cluster.specs.declared.event.Run.{Run}
-use Rattle.cluster.specs.declared.schedule.Schedule.{Schedule}
-use Rattle.cluster.specs.Schedule.{read_schedule}
+use Rattle.schedules.specs.declared.event.Run.{Run}
+use Rattle.schedules.specs.declared.schedule.Schedule.{Schedule}
+use Rattle.schedules.specs.Schedule.{read_schedule}
 use Rattle.cluster.specs.Drawing.{IsDrawn, IsDrawnPast}
-use Rattle.cluster.specs.Fitting.{IsFit}
-use Rattle.cluster.specs.Generator.{generate, summary}
-use Rattle.cluster.specs.Run.{sends_too_much}
+use Rattle.schedules.specs.Fitting.{IsFit}
+use Rattle.schedules.specs.Generator.{generate, summary}
+use Rattle.schedules.specs.Run.{sends_too_much}
 use Rattle.cluster.specs.Runs.{Runs, RunsPast}
-use Rattle.cluster.specs.Text.{show}
+use Rattle.schedules.specs.Text.{show}
 use Rattle.cluster_laws.specs.Laws.{IsSchedule}
 use Rattle.cluster_laws.proofs.Chosen as chosen
 use Rattle.cluster_laws.proofs.ReadFit.{within, schedules_within}

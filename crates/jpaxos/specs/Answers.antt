@@ -3,11 +3,11 @@ use Rattle.std.specs.Prelude.{◌≡◌, ℕ, true, false, List, take, Option, I
 use Rattle.std.specs.Io.KnownBytes.{Appends}
 use Rattle.jp_types.specs.declared.status.Status.{Status}
 use Rattle.jp_types.specs.declared.status.Status.TheVariants.{Done, Usage, BadSchedule, TooLarge, ReadFault, WriteFault, NoMemory}
-use Rattle.cluster.specs.declared.schedule.Schedule.{Schedule}
-use Rattle.cluster.specs.Schedule.{Bad, is_too_long, has_too_many_lines, read_schedule}
-use Rattle.cluster.specs.Run.{run_of, sends_too_much}
-use Rattle.cluster.specs.Text.{show}
-use Rattle.cluster.specs.Generator.{generate, summary}
+use Rattle.schedules.specs.declared.schedule.Schedule.{Schedule}
+use Rattle.schedules.specs.Schedule.{Bad, is_too_long, has_too_many_lines, read_schedule}
+use Rattle.schedules.specs.Run.{run_of, sends_too_much}
+use Rattle.schedules.specs.Text.{show}
+use Rattle.schedules.specs.Generator.{generate, summary}
 use Rattle.jpaxos.specs.Headline.{Headline}
 use Rattle.jpaxos.specs.Words.{refusal}
 

@@ -1,5 +1,5 @@
 -- What holds of the run of a schedule.
-use Rattle.cluster.specs.declared.schedule.Schedule.{Schedule}
+use Rattle.schedules.specs.declared.schedule.Schedule.{Schedule}
 use Rattle.cluster_laws.specs.Laws as laws
 
 -- the run has one event a line, which is what happens at it; the steps of the run are steps of the world, each allowed where it comes; after each line its messages, lives and numbers are the world's; and each line shows just its steps

@@ -2,21 +2,21 @@
 
 ghost use Rattle.std.specs.Prelude.{◌≡◌, ◌≤◌, ℕ, List, true, false, IfOk};
 ghost use Rattle.jp_types.specs.declared.status.Status.TheVariants.{Done, BadSchedule, TooLarge};
-ghost use Rattle.cluster.specs.Fitting.{IsFit};
-ghost use Rattle.cluster.specs.Schedule.{is_too_long};
+ghost use Rattle.schedules.specs.Fitting.{IsFit};
+ghost use Rattle.schedules.specs.Schedule.{is_too_long};
 ghost use Rattle.jpaxos.specs.Answers.{IsAnswer, IsDrawnAnswer, IsRunAnswer};
 ghost use Rattle.jpaxos.specs.Words as words;
 
 use cluster::generator::generate_run;
-use cluster::schedule::{Schedule, ScheduleFault, read_schedule};
-use cluster::show_parts::{push_byte, push_named, push_text};
 use cluster::stepper::{RunFault, run_schedule};
-use cluster::summary::summary;
-use cluster::text::show;
 use jp_types::cause::Cause;
 use jp_types::memory::NoMemory;
 use jp_types::octets::Octets;
 use jp_types::status::Status;
+use schedules::schedule::{Schedule, ScheduleFault, read_schedule};
+use schedules::show_parts::{push_byte, push_named, push_text};
+use schedules::summary::summary;
+use schedules::text::show;
 use std::alloc::Global;
 
 /// A status, and the text that is written with it.

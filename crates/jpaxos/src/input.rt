@@ -3,7 +3,7 @@
 ghost use Rattle.std.specs.Prelude.{◌≡◌, ◌<◌, ◌≤◌, ◌+◌, List, ℕ, Option, length, vec_len, true, false, Err, IfOk, IfSome};
 ghost use Rattle.std.specs.Io.KnownBytes.{Consumes, IsAtEnd};
 ghost use Rattle.jp_types.specs.Faults.{Rose};
-ghost use Rattle.cluster.specs.Schedule.{is_too_long};
+ghost use Rattle.schedules.specs.Schedule.{is_too_long};
 ghost use Rattle.jpaxos.specs.Taking.{TakesAtMost};
 
 use jp_types::source::Source;

@@ -19,3 +19,5 @@ pub mod Settling
 pub mod Serving
 pub mod Turn
 pub mod Shown
+pub mod Batching
+pub mod Replica

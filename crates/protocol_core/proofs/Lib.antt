@@ -1,10 +1,2 @@
 pub mod TurnedLemmas
 pub mod SettlingLemmas
-pub mod SavingLemmas
-pub mod QuietLemmas
-pub mod StableLemmas
-pub mod OpeningLemmas
-pub mod TokenLemmas
-pub mod StoringLemmas
-pub mod PlaceLemmas
-pub mod ResultLemmas

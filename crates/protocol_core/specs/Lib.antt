@@ -10,7 +10,3 @@ pub mod Settling
 pub mod Messages
 pub mod Turning
 pub mod Starting
-pub mod Repeating
-pub mod Performing
-pub mod Running
-pub mod Lending

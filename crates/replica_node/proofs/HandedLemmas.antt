@@ -8,7 +8,6 @@ use Rattle.jp_types.specs.declared.message.Prepare.{Prepare}
 use Rattle.jp_types.specs.declared.message.PrepareOk.{PrepareOk}
 use Rattle.jp_types.specs.declared.message.Propose.{Propose}
 use Rattle.jp_types.specs.declared.message.SnapshotPart.{SnapshotPart}
-use Rattle.jp_types.specs.declared.mode.Phase.{Phase}
 use Rattle.jp_types.specs.Instances.{Batch}
 use Rattle.jp_types.specs.Views.{leader, next_led}
 use Rattle.acceptor_core.specs.Learning.{is_open}
@@ -20,7 +19,6 @@ use Rattle.kv_service.specs.StateReading.{state_in}
 use Rattle.paxos_world.specs.Leading.{is_working, is_view_ss}
 use Rattle.proposer_core.specs.declared.adoption.Adopted.{Adopted}
 use Rattle.proposer_core.specs.declared.adoption.Launch.{Launch}
-use Rattle.proposer_core.specs.Proposing.{next_of}
 use Rattle.replica_log.specs.Log.{is_known, first_undecided}
 use Rattle.service_manager.specs.declared.decision.Decision.{Decision}
 use Rattle.snapshots.specs.Cutting.{parts_of}
@@ -30,17 +28,17 @@ use Rattle.protocol_core.specs.declared.act.Topic.{Topic}
 use Rattle.protocol_core.specs.declared.item.Item.{Item}
 use Rattle.protocol_core.specs.declared.life.Life.{Life}
 use Rattle.protocol_core.specs.declared.life.Snapshot.{Snapshot}
-use Rattle.protocol_core.specs.Answering.{with_entry, answer_sent, raised_to_mark, on_recovery, horizon_to_next, on_alive}
-use Rattle.protocol_core.specs.CatchingUp.{query_of, query_sent, queried, queried_if_due, each_sent, snapshot_sent, newest_sent, batches_sent, given_sent, query_answered, on_query, learned_each, on_batches, is_wanted, joiner_for, after_part, joined_by, is_state_at, installed, installed_if, joined, part_put, on_part}
+use Rattle.protocol_core.specs.Answering.{with_entry, answer_sent, raised_to_mark, on_recovery, on_alive}
+use Rattle.protocol_core.specs.CatchingUp.{queried, queried_if_due, each_sent, newest_sent, given_sent, learned_each, is_wanted, joiner_for, after_part, joined_by, is_state_at, installed, joined, part_put, on_part}
 use Rattle.protocol_core.specs.Launching.{learned, learned_if_open, propose_of, launch_shown, proposed, launched}
 use Rattle.protocol_core.specs.Leading.{saved_view, entered, led_or_dropped, phase_1_begun, begun_from, preparing, prepare_of, raised_to, raised_up_to, raised_if, suspected}
-use Rattle.protocol_core.specs.Messages.{on_kind, heard, on_message}
-use Rattle.protocol_core.specs.Performing.{outward}
-use Rattle.protocol_core.specs.Sending.{to_all, armed_for_all, does, shown, sent_and_armed, sent_to_all}
+use Rattle.protocol_core.specs.Messages.{on_kind, heard}
+use Rattle.protocol_stage.specs.Performing.{outward}
+use Rattle.protocol_core.specs.Sending.{to_all, armed_for_all, does, sent_and_armed, sent_to_all}
 use Rattle.protocol_core.specs.Settling.{rejoin_due, rejoin_saved, rejoin_shown, rejoined_in, settled_rejoin, learned_as_told, launched_as_adopted, launched_each, prepared_shown, prepared_with, adoption_due, with_adoption, settled_prepared, open_place, with_waiting, launched_then, launched_waiting, settled_waiting, Handing, next_handing, handed_on, handed_then, settled_handing, settled}
 use Rattle.protocol_core.specs.Turned.{Turned, stay, followed_by}
 use Rattle.protocol_core.specs.Turning.{alive_of, suspected_if_quiet, tick_counted, on_tick_working, on_tick_if_working, on_tick, on_item, turn, quiet_limit}
-use Rattle.protocol_core.specs.Voting.{horizon_to, leads, counts, promise_sent, promised_if, on_prepare, vote_shown, vote_shown_if, learning_shown, learning_shown_if, accept_of, with_proposal, votes, learns, proposal_taken, proposal_taken_if, proposal_followed, proposal_heard, on_propose, with_accept, learns_by, acceptance_taken, on_accept, up}
+use Rattle.protocol_core.specs.Voting.{horizon_to, leads, counts, promise_sent, promised_if, on_prepare, vote_shown, vote_shown_if, learning_shown, learning_shown_if, accept_of, with_proposal, votes, learns, proposal_taken, proposal_taken_if, proposal_followed, proposal_heard, on_propose, with_accept, learns_by, acceptance_taken, up}
 use Rattle.acceptor_core.specs.Promising.{promised}
 use Rattle.replica_node.specs.Lane.{places}
 use Rattle.replica_node.specs.Taking.{handed_by, handed_of}
@@ -63,10 +61,10 @@ behind-quiet before after quiet = handed-append before after ∙ ap (λ (ds : Li
 quiet-append : (before after : List Act) → handed_of before ≡ [] → handed_of after ≡ [] → handed_of (before ++ after) ≡ []
 quiet-append before after quiet more = behind-quiet before after quiet ∙ more
 
-quiet-then : (t : Turned) (f : Life → Turned) → Quiet t → ((life : Life) → Quiet (f life)) → Quiet (followed_by t f)
+pub quiet-then : (t : Turned) (f : Life → Turned) → Quiet t → ((life : Life) → Quiet (f life)) → Quiet (followed_by t f)
 quiet-then t f quiet more = quiet-append t.acts (f t.life).acts quiet (more t.life)
 
-quiet-if : (b : Bool) (t u : Turned) → Quiet t → Quiet u → Quiet (if b then t else u)
+pub quiet-if : (b : Bool) (t u : Turned) → Quiet t → Quiet u → Quiet (if b then t else u)
 quiet-if true t u this that = this
 quiet-if false t u this that = that
 
@@ -81,7 +79,7 @@ quiet-to_all zero me m = refl
 quiet-to_all (suc k) me m =
     quiet-append (to_all k me m) (if k == me then [] else Act.Send k m ∷ []) (quiet-to_all k me m) (quiet-acts-if (k == me) [] (Act.Send k m ∷ []) refl refl)
 
-quiet-sent_and_armed : (topic : Topic) (m : Message) (life : Life) → Quiet (sent_and_armed topic m life)
+pub quiet-sent_and_armed : (topic : Topic) (m : Message) (life : Life) → Quiet (sent_and_armed topic m life)
 quiet-sent_and_armed topic m life =
     quiet-append (to_all life.config.n life.config.me m) (armed_for_all life.config.n life.config.me topic m) (quiet-to_all life.config.n life.config.me m) refl
 
@@ -90,7 +88,7 @@ quiet-sent_to_all m life = quiet-to_all life.config.n life.config.me m
 
 -- ---- Leading
 
-quiet-begun_from : (life : Life) (first : ℕ) → Quiet (begun_from life first)
+pub quiet-begun_from : (life : Life) (first : ℕ) → Quiet (begun_from life first)
 quiet-begun_from life first = quiet-sent_and_armed Topic.Prepare (prepare_of life first) (preparing life first)
 
 quiet-saved_view : (life : Life) (view : ℕ) → Quiet (saved_view life view)

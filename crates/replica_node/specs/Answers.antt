@@ -1,5 +1,5 @@
 -- The answers to a step.
-use Rattle.protocol_core.specs.declared.protocol.TurnFault.{TurnFault}
+use Rattle.protocol_stage.specs.declared.protocol.TurnFault.{TurnFault}
 use Rattle.replica_node.specs.declared.stage.Stepped.{Stepped}
 use Rattle.replica_node.specs.declared.stages.Taken.{Taken}
 

@@ -1,11 +1,11 @@
 -- How a replica begins.
 use Rattle.std.specs.Prelude.{◌≡◌, ℕ, false, List, [], Option}
 use Rattle.kv_service.specs.Service.{start}
-use Rattle.protocol_core.specs.Running.{IsOpened}
+use Rattle.protocol_stage.specs.Running.{IsOpened}
 use Rattle.protocol_core.specs.declared.act.Act.{Act}
 use Rattle.protocol_core.specs.declared.config.Config.{Config}
 use Rattle.retransmitter.specs.Slots.{free_slots}
-use Rattle.replica_node.specs.Taking.{takes_least}
+use Rattle.protocol_stage.specs.Arming.{takes_least}
 use Rattle.replica_node.specs.Whole.{Whole}
 use Rattle.replica_node.specs.declared.stages.Stages.{Stages}
 

@@ -1,7 +1,7 @@
 -- The disk of a replica.
 use Rattle.std.specs.Prelude.{ℕ, List, Option, Some, None}
 use Rattle.std.specs.List.{slice_get}
-use Rattle.protocol_core.specs.Running.{Running}
+use Rattle.protocol_stage.specs.Running.{Running}
 use Rattle.protocol_core.specs.declared.item.Item.{Item}
 use Rattle.stable_store.specs.Slots.{Loads, Stands}
 use Rattle.replica_node.specs.Taking.{turned}

@@ -10,3 +10,5 @@ pub mod Stepping
 pub mod Steps
 pub mod Taking
 pub mod Whole
+pub mod Resembling
+pub mod Following

@@ -1,13 +1,11 @@
 -- A step of the Protocol stage.
 use Rattle.std.specs.Prelude.{◌≡◌, ℕ, ◌-◌, false, List, [], ◌∷◌, ◌++◌, drop, length, Option, Some, None}
-use Rattle.std.specs.List.{slice_get}
 use Rattle.protocol_core.specs.declared.act.Act.{Act}
 use Rattle.protocol_core.specs.declared.item.Item.{Item}
-use Rattle.protocol_core.specs.Performing.{Repeats, outward}
+use Rattle.protocol_stage.specs.Arming.{takes_least}
+use Rattle.protocol_stage.specs.Performing.{Repeats, outward}
 use Rattle.protocol_core.specs.Turned.{Turned}
 use Rattle.protocol_core.specs.Turning.{turn}
-use Rattle.retransmitter.specs.Slots.{least_free}
-use Rattle.retransmitter.specs.declared.slots.Slot.{Slot}
 use Rattle.service_manager.specs.declared.decision.Decision.{Decision}
 use Rattle.replica_node.specs.Lane.{places}
 use Rattle.replica_node.specs.declared.stages.Stages.{Stages}
@@ -50,10 +48,6 @@ room_in s = places - length s.decisions
 -- the turn that the life takes with an item
 abbrev pub turned : Stages → Item → Turned
 turned s item = turn s.protocol.life item (room_in s)
-
--- a message is repeated in the least slot that is free
-abbrev pub takes_least : List Slot → Option ℕ → Type 0
-takes_least slots k = k ≡ least_free slots
 
 -- the Protocol stage took an item: its life took the turn, and its decisions went into the decision lane, in order; these are the other acts that go out, in order
 pub record TakesItem (old : Stages) (item : Item) (acts : List Act) (new : Stages) : Type 0 where

@@ -3,7 +3,6 @@
 
 pub mod batching;
 pub mod lane;
-pub mod last;
 pub mod repeating;
 pub mod replica;
 pub mod serving;

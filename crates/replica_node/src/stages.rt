@@ -2,7 +2,8 @@
 
 ghost use Rattle.std.specs.Prelude.{◌≡◌, ◌≢◌, ◌≤◌, not, ◌&&◌, false, Some, Err, IfOk, OnOk};
 ghost use Rattle.jp_types.specs.Faults.{Rose};
-ghost use Rattle.protocol_core.specs.Performing.{LoadsOneOf};
+ghost use Rattle.jp_types.specs.declared.mode.Mode.TheVariants as mode;
+ghost use Rattle.protocol_stage.specs.Performing.{LoadsOneOf};
 ghost use Rattle.stable_store.specs.Disks.{LeavesOnly};
 ghost use Rattle.replica_node.specs.Beginning.{IsFresh};
 ghost use Rattle.replica_node.specs.Keeping.{Keeps, stable_after};
@@ -10,16 +11,16 @@ ghost use Rattle.replica_node.specs.Lanes.{is_full_at, is_kind_of, after_put};
 ghost use Rattle.replica_node.specs.Steps.{StepsAt};
 
 use crate::lane::Lane;
-use crate::last::Last;
 use crate::stage::{LaneItem, Stage};
 use batcher::batcher::Batcher;
 use batcher::fed::Fed;
 use jp_types::listed::Listed;
 use jp_types::memory::NoMemory;
 use jp_types::message::ReplicaId;
+use paxos_world::last::Last;
 use protocol_core::act::Act;
 use protocol_core::item::Item;
-use protocol_core::protocol::{Protocol, TurnFault};
+use protocol_stage::protocol::{Protocol, TurnFault};
 use retransmitter::slots::Slots;
 use service_manager::decision::Decision;
 use service_manager::service::Service;
@@ -121,6 +122,7 @@ impl Stages {
         ensures up { OnOk result (self.new.protocol.down ≡ false) }
         ensures kept { OnOk result (Keeps self.new.protocol (D.size disk.new) (D.seen disk.new) (D.may_leave disk.new)) }
         ensures any_moment { LeavesOnly D.moment D.left_since disk.old disk.new (LoadsOneOf (Some self.old.protocol.life.stable) (Some (stable_after stage self.old))) }
+        ensures epoch { self.old.protocol.life.config.mode ≡ mode.EpochSs → disk.new ≡ disk.old }
         ensures not_down { result ≢ Err TurnFault.Down }
         ensures store { result ≡ Err TurnFault.StoreFault → stage ≡ Stage.Protocol }
         ensures fault { result ≡ Err TurnFault.StoreFault → Rose (D.faults disk.old) (D.faults disk.new) }

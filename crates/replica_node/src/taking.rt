@@ -3,8 +3,9 @@
 ghost use Rattle.std.specs.Prelude.{◌≡◌, ◌≢◌, ◌+◌, ◌≤◌, ◌++◌, false, List, ℕ, Some, Err, length, IfOk, OnOk, OnErr};
 ghost use Rattle.std.specs.List.{slice_get};
 ghost use Rattle.jp_types.specs.Faults.{Rose};
+ghost use Rattle.jp_types.specs.declared.mode.Mode.TheVariants as mode;
 ghost use Rattle.protocol_core.specs.declared.act.Act.{Act};
-ghost use Rattle.protocol_core.specs.Performing.{LoadsOneOf};
+ghost use Rattle.protocol_stage.specs.Performing.{LoadsOneOf};
 ghost use Rattle.stable_store.specs.Disks.{LeavesOnly};
 ghost use Rattle.replica_node.specs.declared.stages.Taken.TheVariants as taken_as;
 ghost use Rattle.replica_node.specs.Lane.{places};
@@ -17,7 +18,7 @@ use jp_types::listed::Listed;
 use jp_types::memory::NoMemory;
 use protocol_core::act::Act;
 use protocol_core::item::Item;
-use protocol_core::protocol::TurnFault;
+use protocol_stage::protocol::TurnFault;
 use service_manager::decision::Decision;
 use stable_store::disk::Disk;
 use std::alloc::Global;
@@ -77,6 +78,7 @@ impl Stages {
         ensures taken { IfOk result (λ taken. (acts : List Act) × (taken ≡ taken_as.Done acts) × TakesItem self.old item acts self.new) }
         ensures kept { OnOk result (Keeps self.new.protocol (D.size disk.new) (D.seen disk.new) (D.may_leave disk.new)) }
         ensures any_moment { LeavesOnly D.moment D.left_since disk.old disk.new (LoadsOneOf (Some self.old.protocol.life.stable) (Some (stable_with self.old (Some item)))) }
+        ensures epoch { self.old.protocol.life.config.mode ≡ mode.EpochSs → disk.new ≡ disk.old }
         ensures not_down { result ≢ Err TurnFault.Down }
         ensures fault { result ≡ Err TurnFault.StoreFault → Rose (D.faults disk.old) (D.faults disk.new) }
         ensures later { D.faults disk.old ≤ D.faults disk.new }
@@ -95,6 +97,7 @@ impl Stages {
         ensures kept { OnOk result (Keeps self.new.protocol (D.size disk.new) (D.seen disk.new) (D.may_leave disk.new)) }
         ensures up { OnOk result (self.new.protocol.down ≡ false) }
         ensures any_moment { LeavesOnly D.moment D.left_since disk.old disk.new (LoadsOneOf (Some self.old.protocol.life.stable) (Some (stable_with self.old (slice_get self.old.dispatcher 0)))) }
+        ensures epoch { self.old.protocol.life.config.mode ≡ mode.EpochSs → disk.new ≡ disk.old }
         ensures not_down { result ≢ Err TurnFault.Down }
         ensures fault { result ≡ Err TurnFault.StoreFault → Rose (D.faults disk.old) (D.faults disk.new) }
         ensures later { D.faults disk.old ≤ D.faults disk.new }

@@ -1,23 +1,24 @@
 -- The schedule that a seed draws is the same in the model and in the code.
 use Rattle.std.proofs.Common.{◌≡◌, ◌∙◌, inl, inr, ◌+◌, ◌-◌, ◌≤◌, ℕ, suc, true, List, [], ◌∷◌, ◌++◌, length, refl, sym, ap, subst, arith, append-nil, append_assoc}
-use Rattle.cluster.specs.Generator.{lines_drawn, generate}
+use Rattle.schedules.specs.Generator.{lines_drawn, generate}
 use Rattle.cluster.specs.Drawing as code
 use Rattle.cluster.specs.Drawing.{Draws, DrawsFrom, DrawsPast, IsDrawn, IsDrawnPast, MayComeNext, drawn_head, first_drawing}
-use Rattle.cluster.specs.Cluster.{Cluster}
-use Rattle.cluster.specs.Run.{event, first_event, sends_too_much}
+use Rattle.schedules.specs.Cluster.{Cluster}
+use Rattle.schedules.specs.Run.{event, first_event, sends_too_much}
 use Rattle.cluster.specs.Runs.{OpensPast, PassesAt}
 use Rattle.cluster.specs.Stepping.{Stepping, Opens, Happens, outcome_of}
-use Rattle.cluster.specs.declared.event.Event.{Event}
-use Rattle.cluster.specs.declared.event.Run.{Run}
-use Rattle.cluster.specs.declared.line.Line.{Line}
-use Rattle.cluster.specs.declared.schedule.Schedule.{Schedule}
+use Rattle.schedules.specs.declared.event.Event.{Event}
+use Rattle.schedules.specs.declared.event.Run.{Run}
+use Rattle.schedules.specs.declared.line.Line.{Line}
+use Rattle.schedules.specs.declared.schedule.Schedule.{Schedule}
 use Rattle.cluster_laws.specs.Laws.{after_lines}
 use Rattle.run_laws.specs.Laws.{IsRunnable}
-use Rattle.run_laws.specs.Resembling.{IsCluster, Alike}
-use Rattle.run_laws.proofs.Goals.{OpensAlike, EventAlike, RunsReady}
+use Rattle.cluster.specs.Resembling.{IsCluster, Alike}
+use Rattle.cluster.proofs.Goals.{OpensAlike, EventAlike, RunsReady}
 use Rattle.run_laws.proofs.Generated.{generate-is-runnable}
 use Rattle.run_laws.proofs.Nexts.{model_drawing, next-alike}
-use Rattle.run_laws.proofs.Fronts.{after-append, front-past, head-at}
+use Rattle.run_laws.proofs.Running.{head-at, head-within}
+use Rattle.cluster.proofs.Fronts.{after-append, front-past}
 
 -- ---- Lines
 
@@ -93,7 +94,7 @@ module _ (opens : OpensAlike) (comes : EventAlike) (ready : RunsReady) where
   opens-at : (seed n steps : ℕ) (e : Event) (begun : Stepping) → IsRunnable (generate seed n steps) → Opens (drawn_head seed n) e begun → IsFront (generate seed n steps) steps [] (first_drawing seed n) begun
   unfolding generate
   opens-at seed n steps e begun is h =
-      record { split = refl; cluster = (opens (drawn_head seed n) e begun (is.more, is.schedule_is.few, is.some, is.window) h).1 }
+      record { split = refl; cluster = (opens (drawn_head seed n) e begun (head-within (generate seed n steps) is) h).1 }
 
   -- lines that the code draws from a seed are a front of those that the model draws
   draws-front : (seed n steps k : ℕ) (lines : List Line) (events : List Event) (g : code.Drawing) (s : Stepping) → IsRunnable (generate seed n steps) → steps ≡ length lines + k

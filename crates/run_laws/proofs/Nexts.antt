@@ -9,16 +9,18 @@ use Rattle.jp_types.specs.Views.{majority}
 use Rattle.paxos_world.specs.Counting.{is_recovering}
 use Rattle.paxos_world.specs.World as world
 use Rattle.replica_node.specs.Whole.{Whole}
-use Rattle.cluster.specs.Generator as model
-use Rattle.cluster.specs.Generator.{drawn, next_word}
+use Rattle.schedules.specs.Generator as model
+use Rattle.schedules.specs.Generator.{drawn, next_word}
 use Rattle.cluster.specs.Drawing as code
-use Rattle.cluster.specs.Cluster.{Running, Place, Cluster, running_of}
+use Rattle.paxos_world.specs.Replica.{Running}
+use Rattle.schedules.specs.Cluster.{Place, Cluster, running_of}
 use Rattle.cluster.specs.Machine.{Machine}
 use Rattle.cluster.specs.Machines as machines
 use Rattle.cluster.specs.Stepping.{Stepping, replica_at, up_on}
-use Rattle.cluster.specs.declared.line.Line.{Line}
+use Rattle.schedules.specs.declared.line.Line.{Line}
 use Rattle.cluster.specs.declared.sent.Sent.{Sent}
-use Rattle.run_laws.specs.Resembling.{sent_of, AreAlike, IsCluster}
+use Rattle.replica_node.specs.Resembling.{AreAlike}
+use Rattle.cluster.specs.Resembling.{sent_of, IsCluster}
 
 -- the model's generator of a cluster that has the word and the counts of the code's
 abbrev pub model_drawing : Cluster → code.Drawing → model.Drawing

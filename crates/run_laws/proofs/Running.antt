@@ -3,22 +3,36 @@ use Rattle.std.proofs.Common.{◌≡◌, ℕ, suc, ◌≤◌, true, false, List,
 use Rattle.std.proofs.lemmas.Bool.Decides.{nat_tests}
 use Rattle.std.proofs.lemmas.List.{take-append-drop}
 use Rattle.replica_node.specs.Whole.{Whole}
-use Rattle.cluster.specs.declared.event.Event.{Event}
-use Rattle.cluster.specs.declared.event.Run.{Run}
-use Rattle.cluster.specs.declared.line.Line.{Line}
-use Rattle.cluster.specs.declared.schedule.Schedule.{Schedule}
-use Rattle.cluster.specs.Cluster.{Running, Place, Cluster}
+use Rattle.schedules.specs.declared.event.Event.{Event}
+use Rattle.schedules.specs.declared.event.Run.{Run}
+use Rattle.schedules.specs.declared.line.Line.{Line}
+use Rattle.schedules.specs.declared.schedule.Schedule.{Schedule}
+use Rattle.paxos_world.specs.Replica.{Running}
+use Rattle.schedules.specs.Cluster.{Place, Cluster}
+use Rattle.schedules.specs.Heads.{IsHead}
 use Rattle.cluster.specs.Frames.{frame_limit}
 use Rattle.cluster.specs.Machine.{Machine}
 use Rattle.cluster.specs.Machines as machines
-use Rattle.cluster.specs.Run.{event, cluster_after, event_of, events_of, first_event, run_of, last_of, sent_bytes, sends_too_much}
+use Rattle.schedules.specs.Run.{event, cluster_after, event_of, events_of, first_event, run_of, last_of, sent_bytes, sends_too_much}
 use Rattle.cluster.specs.Runs.{Goes, Reaches, Runs, RunsPast}
 use Rattle.cluster.specs.Stepping.{Stepping, Happens, outcome_of, lasts_of}
 use Rattle.cluster_laws.specs.Laws.{after_lines}
 use Rattle.run_laws.specs.Laws.{IsRunnable, IsTheRun, RunsAlike, RunsPastAlike}
-use Rattle.run_laws.specs.Resembling.{Resembles, AreAlike, IsCluster, Alike}
-use Rattle.run_laws.proofs.Fronts.{bytes-alike, after-append, front-past, head-within, head-at}
-use Rattle.run_laws.proofs.Goals.{OpensAlike, EventAlike, RunsReady}
+use Rattle.replica_node.specs.Resembling.{Resembles, AreAlike}
+use Rattle.cluster.specs.Resembling.{IsCluster, Alike}
+use Rattle.cluster.proofs.Fronts.{bytes-alike, after-append, front-past, reached-by}
+use Rattle.cluster.proofs.Goals.{OpensAlike, EventAlike, RunsReady}
+use Rattle.cluster.proofs.Whole.{event-is}
+
+-- ---- Constants
+
+-- the constants of a runnable schedule are within their limits
+pub head-within : (schedule : Schedule) → IsRunnable schedule → IsHead schedule.head
+head-within schedule is = record { some = is.more; few = is.schedule_is.few; open_window = is.some; window_limit = is.window }
+
+-- the constants of a cluster of a runnable schedule's run are within their limits
+pub head-at : (schedule : Schedule) → IsRunnable schedule → (lines more : List Line) → schedule.lines ≡ lines ++ more → IsHead (after_lines schedule lines).head
+head-at schedule is lines more e = subst IsHead (sym (reached-by schedule is.schedule_is lines more e).head_is) (head-within schedule is)
 
 -- ---- What each replica ends with
 
@@ -58,13 +72,6 @@ lasts-alike c s h =
 record Went (c : Cluster) (lines : List Line) (events : List Event) (after : Stepping) : Type 0 where
   events_are : events ≡ events_of c lines
   cluster : IsCluster (cluster_after c lines) after
-
--- an event with the model's word and steps is the model's
-event-is : (e : Event) (line : Line) (c : Cluster) (next : Stepping) → e.line ≡ line → Alike (event c line) (outcome_of e next) → e ≡ event_of line (event c line)
-event-is e line c next same h =
-    let word = h.word in
-    let steps = h.steps in
-    λ k. record { line = same k; word = word k; steps = steps k }
 
 module _ (opens : OpensAlike) (comes : EventAlike) (ready : RunsReady) where
   module _ (schedule : Schedule) (is : IsRunnable schedule) where

@@ -1,10 +1,10 @@
 -- Runs of the code are those of the model.
 use Rattle.std.specs.Prelude.{◌≡◌, ℕ, ◌≤◌, true, false}
-use Rattle.cluster.specs.declared.event.Run.{Run}
-use Rattle.cluster.specs.declared.schedule.Schedule.{Schedule}
+use Rattle.schedules.specs.declared.event.Run.{Run}
+use Rattle.schedules.specs.declared.schedule.Schedule.{Schedule}
 use Rattle.cluster.specs.Drawing.{IsDrawn, IsDrawnPast}
-use Rattle.cluster.specs.Generator.{generate}
-use Rattle.cluster.specs.Run.{run_of, sends_too_much}
+use Rattle.schedules.specs.Generator.{generate}
+use Rattle.schedules.specs.Run.{run_of, sends_too_much}
 use Rattle.cluster.specs.Runs.{Runs, RunsPast}
 use Rattle.cluster_laws.specs.Laws.{IsSchedule}
 

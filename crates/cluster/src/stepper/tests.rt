@@ -1,8 +1,8 @@
 //! Lines and what answers them.
 
 use super::*;
-use crate::read_line::read_line;
-use crate::text::show_event;
+use schedules::read_line::read_line;
+use schedules::text::show_event;
 use std::test::Fail;
 
 /// A run so far.

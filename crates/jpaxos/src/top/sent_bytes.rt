@@ -2,8 +2,8 @@
 
 use super::tests::told;
 use super::*;
-use cluster::show_parts::push_text;
 use jp_types::memory::NoMemory;
+use schedules::show_parts::push_text;
 use std::test::Fail;
 
 /// Appends the first lines of nine replicas, up to the Prepared leader: 652 bytes of frames.

@@ -4,8 +4,8 @@ ghost use Rattle.std.specs.Prelude.{◌≤◌};
 
 use super::tests::{schedule_of, told};
 use super::*;
-use cluster::show_parts::push_text;
 use jp_types::memory::NoMemory;
+use schedules::show_parts::push_text;
 use std::test::Fail;
 
 /// How many Puts are decided.

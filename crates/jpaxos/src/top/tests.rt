@@ -4,11 +4,11 @@ use super::texts::{
     TWO_CRASHES, TWO_LEADERS,
 };
 use super::*;
-use cluster::show_parts::push_text;
 use jp_types::cause::Cause;
 use jp_types::sink::{CountingSink, MemorySink};
 use jp_types::source::{FailingSource, MemorySource};
 use jp_types::words::number;
+use schedules::show_parts::push_text;
 use std::test::Fail;
 
 /// The schedule of a run: each line of its text up to its answer, with `end` last.
@@ -168,7 +168,7 @@ fn drawn(alloc: Global, words: &[&str]) -> Result<(Status, MemorySink), Fail> {
     Ok((status, sink))
 }
 
-// The texts are those that the definitions give, as cluster/proofs/Summaries.antt computes them.
+// The texts are those that the definitions give, as schedules/proofs/Summaries.antt computes them.
 #[test]
 fn writes_the_summary_of_a_drawn_run(rt: HostRuntime) -> Result<(), Fail> {
     for (words, text) in [

@@ -1,7 +1,7 @@
 use Rattle.std.proofs.Common.{◌≡◌, ◌<◌, ◌++◌, ◌∷◌, [], ℕ, List, length, refl, inl, inr, sym, ap, subst, rules, arith, add-one}
-use Rattle.cluster.specs.declared.event.Event.{Event}
-use Rattle.cluster.specs.declared.line.Head.{Head}
-use Rattle.cluster.specs.declared.line.Line.{Line}
+use Rattle.schedules.specs.declared.event.Event.{Event}
+use Rattle.schedules.specs.declared.line.Head.{Head}
+use Rattle.schedules.specs.declared.line.Line.{Line}
 use Rattle.cluster.specs.Drawing.{drawn_head, IsBeingDrawn, next_line}
 use Rattle.cluster.specs.Runs.{PassesAt, Reaches}
 use Rattle.cluster.proofs.DrawnLemmas.{being_drawn_more}

@@ -1,7 +1,7 @@
 use Rattle.std.proofs.Common.{◌≡◌, ◌+◌, ◌<◌, ◌≤◌, List, length, take, get_or, sym, subst, rules}
 use Rattle.std.proofs.lemmas.List.{take_all}
-use Rattle.cluster.specs.declared.event.Event.{Event}
-use Rattle.cluster.specs.declared.line.Line.{Line}
+use Rattle.schedules.specs.declared.event.Event.{Event}
+use Rattle.schedules.specs.declared.line.Line.{Line}
 use Rattle.cluster.specs.Runs.{OpensPast, PassesAt, Reaches}
 use Rattle.cluster.proofs.RunLemmas.{line_past_runs, opens_past_runs, reaches_lines, reaches_next}
 use Rattle.cluster.proofs.stepper.run_schedule.Goals as goal

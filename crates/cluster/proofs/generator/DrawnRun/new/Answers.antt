@@ -1,7 +1,7 @@
 use Rattle.std.proofs.Common.{◌≡◌, [], ◌∷◌, ◌++◌, List, ◌∙◌, sym, ap, subst}
-use Rattle.cluster.specs.declared.event.Event.{Event}
-use Rattle.cluster.specs.declared.line.Head.{Head}
-use Rattle.cluster.specs.declared.line.Line.{Line}
+use Rattle.schedules.specs.declared.event.Event.{Event}
+use Rattle.schedules.specs.declared.line.Head.{Head}
+use Rattle.schedules.specs.declared.line.Line.{Line}
 use Rattle.cluster.specs.Drawing.{drawn_head, Generating, IsBeingDrawn}
 use Rattle.cluster.specs.Stepping.{Opens}
 use Rattle.cluster.proofs.DrawnLemmas.{being_drawn_first}

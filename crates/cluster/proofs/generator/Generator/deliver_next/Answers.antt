@@ -1,6 +1,6 @@
 use Rattle.std.proofs.Common.{◌≡◌, ◌∙◌, ◌<◌, suc, List, length, sym, ap, subst, add-one}
 use Rattle.std.specs.Prelude.{Option, Some, None, slice_index, slice_set}
-use Rattle.cluster.specs.declared.line.Line.{Line}
+use Rattle.schedules.specs.declared.line.Line.{Line}
 use Rattle.cluster.specs.Drawing.{AreLookedAt, delivers_next, Drawing, Drawn, Generating, message_from}
 use Rattle.cluster.proofs.DrawingLemmas.{delivers_found, delivers_none, looked_at_again, looked_at_all, read_at}
 use Rattle.cluster.proofs.generator.Generator.deliver_next.Goals as goal

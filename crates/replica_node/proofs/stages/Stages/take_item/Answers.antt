@@ -1,5 +1,5 @@
 use Rattle.std.proofs.Common.{◌≡◌, ◌-◌, ℕ, Some, subst}
-use Rattle.protocol_core.specs.Performing.{LoadsOneOf}
+use Rattle.protocol_stage.specs.Performing.{LoadsOneOf}
 use Rattle.protocol_core.specs.Turning.{turn}
 use Rattle.stable_store.specs.Disks.{LeavesOnly}
 use Rattle.replica_node.specs.Lane.{places}

@@ -1,0 +1,16 @@
+pub mod SavingLemmas
+pub mod QuietLemmas
+pub mod StableLemmas
+pub mod OpeningLemmas
+pub mod TokenLemmas
+pub mod StoringLemmas
+pub mod PlaceLemmas
+pub mod ResultLemmas
+pub mod Goals
+pub mod Apart
+pub mod SlotLemmas
+pub mod Cancelling
+pub mod Fitting
+pub mod Arming
+pub mod Following
+pub mod EpochLemmas

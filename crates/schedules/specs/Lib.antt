@@ -1,0 +1,9 @@
+pub mod Schedule
+pub mod Cluster
+pub mod Run
+pub mod Text
+pub mod Reading
+pub mod Generator
+pub mod Lines
+pub mod Heads
+pub mod Fitting
