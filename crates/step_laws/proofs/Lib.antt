@@ -8,3 +8,15 @@ pub mod Launching
 pub mod Settling
 pub mod Casting
 pub mod Voting
+pub mod Installing
+pub mod Handing
+pub mod LearningWords
+pub mod LearnedItems
+pub mod Learning
+pub mod SendingWords
+pub mod SentItems
+pub mod Sending
+pub mod SavingWords
+pub mod Saving
+pub mod Keeping
+pub mod Counting

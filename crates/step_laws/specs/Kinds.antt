@@ -1,5 +1,6 @@
 -- The steps of one kind that acts show.
-use Rattle.std.specs.Prelude.{Bool, true, false, List, [], ◌∷◌, if◌then◌else◌}
+use Rattle.std.specs.Prelude.{ℕ, Bool, true, false, ◌||◌, List, [], ◌∷◌, if◌then◌else◌}
+use Rattle.jp_types.specs.declared.message.Message.{Message}
 use Rattle.paxos_world.specs.declared.step.Step.{Step}
 use Rattle.paxos_world.specs.Stage.{Act, Show, Send, Hand, Save}
 
@@ -45,3 +46,34 @@ is_launch _ = false
 abbrev pub is_vote : Step → Bool
 is_vote (Step.Vote r view i) = true
 is_vote _ = false
+
+-- a life learns
+abbrev pub is_learn : Step → Bool
+is_learn (Step.Learn r i) = true
+is_learn _ = false
+
+-- a life installs a state
+abbrev pub is_install : Step → Bool
+is_install (Step.Install r upto) = true
+is_install _ = false
+
+-- the messages that these acts send, each with the replica that it goes to, in order
+abbrev pub sent_in : List Act → List (ℕ × Message)
+sent_in [] = []
+sent_in (Show step ∷ acts) = sent_in acts
+sent_in (Send to m ∷ acts) = (to, m) ∷ sent_in acts
+sent_in (Hand decision ∷ acts) = sent_in acts
+sent_in (Save number ∷ acts) = sent_in acts
+
+-- the numbers that these acts save, in order
+abbrev pub saved_in : List Act → List ℕ
+saved_in [] = []
+saved_in (Show step ∷ acts) = saved_in acts
+saved_in (Send to m ∷ acts) = saved_in acts
+saved_in (Hand decision ∷ acts) = saved_in acts
+saved_in (Save number ∷ acts) = number ∷ saved_in acts
+
+-- a step that a turn may show
+abbrev pub is_of_a_turn : Step → Bool
+is_of_a_turn step =
+    is_enter step || (is_promise step || (is_vote step || (is_learn step || (is_answer step || (is_install step || (is_rejoin step || (is_prepared_step step || is_launch step)))))))

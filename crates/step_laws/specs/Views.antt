@@ -1,7 +1,8 @@
 -- Which view a turn enters, which ones it promises, which recovery it answers, and which proposal it votes on, in the words of the item that it takes.
-use Rattle.std.specs.Prelude.{ℕ, suc, ◌&&◌, not, List, [], ◌∷◌, nat_le, nat_lt, ◌==◌, if◌then◌else◌, Option, Some, None, is_some}
+use Rattle.std.specs.Prelude.{ℕ, suc, Bool, ◌&&◌, not, List, [], ◌∷◌, nat_le, nat_lt, ◌==◌, if◌then◌else◌, Option, Some, None, is_some}
 use Rattle.std.specs.Option.{unwrap_or}
 use Rattle.jp_types.specs.declared.message.Message.{Message}
+use Rattle.jp_types.specs.declared.message.Propose.{Propose}
 use Rattle.jp_types.specs.Views.{leader, next_led, number_if}
 use Rattle.paxos_world.specs.declared.step.Step.{Step}
 use Rattle.paxos_world.specs.Life.{next_of}
@@ -52,8 +53,11 @@ recovery_answer s (Came from (Message.Recovery m)) =
     if works s then Step.Answer s.config.me from.replica (unwrap_or entered s.life.view) (if is_some entered then None else next_of s.life.leading) ∷ [] else []
 recovery_answer s _ = []
 
--- the vote on a proposal of the leader of its view, by a Working stage whose view is not above it, where the instance is in span
+-- whether a stage may vote on a proposal of p: it is Working, p leads the proposal's view, its own view is not above that, and the instance is in span
+abbrev pub may_vote : Stage → ℕ → Propose → Bool
+may_vote s p m = works s && leads s p m.view && nat_le s.life.view m.view && is_in_span s m.instance
+
+-- the vote on a proposal, where the stage may vote on it
 abbrev pub proposal_vote : Stage → Item → List Step
-proposal_vote s (Came from (Message.Propose m)) =
-    if works s && leads s from.replica m.view && nat_le s.life.view m.view && is_in_span s m.instance then Step.Vote s.config.me m.view m.instance ∷ [] else []
+proposal_vote s (Came from (Message.Propose m)) = if may_vote s from.replica m then Step.Vote s.config.me m.view m.instance ∷ [] else []
 proposal_vote s _ = []
