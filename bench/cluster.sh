@@ -9,6 +9,7 @@ import os, sys, tempfile, time
 
 PROGRAM = sys.argv[1]
 LINES = 100_000
+RUNS = 7
 # requests that go into one batch, and after how many executed instances each replica takes a snapshot
 BATCH, SNAPSHOT = 5, 256
 
@@ -56,20 +57,27 @@ def run(words, given):
         return seconds, usage.ru_maxrss / 1024, sink.read()
 
 
+def quickest(words, given):
+    """The seconds of the quickest of some runs, the most memory that one took, and what it wrote. Other work on the machine
+    only adds to the time of a run, so that the quickest tells the most."""
+    runs = [run(words, given) for _ in range(RUNS)]
+    return min(seconds for seconds, _, _ in runs), max(memory for _, memory, _ in runs), runs[-1][2]
+
+
 def show(name, lines, seconds, memory, rest=""):
     print(f"{name:28} {lines:7} lines {seconds:8.3f} s {lines / seconds:12,.0f} lines/s {memory:8.1f} MB{rest}", flush=True)
 
 
 times = {}
 for seed, n, steps in [(7, 5, 20_000), (7, 5, 99_998), (8, 9, 99_998)]:
-    seconds, memory, _ = run(["gen", str(seed), str(n), str(steps)], b"")
+    seconds, memory, _ = quickest(["gen", str(seed), str(n), str(steps)], b"")
     times[(seed, n, steps)] = seconds
     bound = "   (bounds: 2 s, 400 MB)" if (seed, n, steps) == (7, 5, 99_998) else ""
     show(f"gen {seed} {n} {steps}", steps + 2, seconds, memory, bound)
 print(f"gen 7 5: five times the steps take {times[(7, 5, 99_998)] / times[(7, 5, 20_000)]:.2f} times as long   (bound: 7)")
 
 schedule = many_requests()
-seconds, memory, text = run(["cluster"], schedule)
+seconds, memory, text = quickest(["cluster"], schedule)
 show("cluster, many requests", LINES, seconds, memory)
 print(f"requests executed: {text.count(b'+ok')}, in {text.count(b'; execute ')} batches")
 PYTHON
