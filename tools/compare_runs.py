@@ -146,7 +146,7 @@ def proof(lines, text):
     return (
         "-- Written by tools/compare_runs.py.\n"
         "use Rattle.std.specs.Prelude.{◌≡◌, ℕ, true, List, [], ◌∷◌, codes, refl}\n"
-        "use Rattle.schedules.proofs.Examples.{gives}\n\n"
+        "use Rattle.worked_schedules.proofs.Examples.{gives}\n\n"
         "abbrev input : List (List ℕ)\ninput =\n" + listed(lines + ["end"]) + "\n"
         "abbrev text : List (List ℕ)\ntext =\n" + listed(text.splitlines()) + "\n"
         "pub holds : gives input text ≡ true\nunfolding gives\nholds = refl\n"
@@ -173,7 +173,7 @@ def main():
         os.makedirs(os.path.join(crate, "src"))
         os.makedirs(os.path.join(crate, "proofs"))
         with open(os.path.join(copy, "crates.txt"), "a") as crates:
-            crates.write("compared: " + standing_on("schedules") + " schedules\n")
+            crates.write("compared: " + standing_on("worked_schedules") + " worked_schedules\n")
         with open(os.path.join(crate, "src", "lib.rt"), "w") as root:
             root.write("//! Runs of the program beside the definitions.\n#![tactic(auto)]\n\n/// Nothing.\npub fn nothing() {}\n")
         for seed in range(first, first + count):

@@ -1,5 +1,5 @@
 -- Reports, and the batch that a leader adopts from them.
-use Rattle.std.specs.Prelude.{◌≡◌, ℕ, zero, suc, ◌≤◌, ◌<◌, List, [], ◌∷◌, if◌then◌else◌, ◌==◌, nat_lt, Option, Some, None}
+use Rattle.std.specs.Prelude.{◌≡◌, ℕ, ◌≤◌, ◌<◌, List, [], ◌∷◌, Option, Some, None}
 use Rattle.std.specs.Option.{unwrap_or, option_or, option_map}
 use Rattle.jp_types.specs.declared.message.PrepareOk.{PrepareOk}
 use Rattle.jp_types.specs.declared.message.Entry.{Entry}

@@ -1,16 +1,13 @@
 -- Catching up: queries, known batches, and snapshots in parts.
-use Rattle.std.specs.Prelude.{ℕ, zero, suc, ◌+◌, ◌-◌, ◌/◌, ◌%◌, min, Bool, true, false, ◌&&◌, not, List, [], ◌∷◌, length, take, drop, flat_map, bytes_eq, nat_le, nat_lt, ◌==◌, if◌then◌else◌, Option, Some, None, is_some}
+use Rattle.std.specs.Prelude.{ℕ, suc, ◌+◌, ◌-◌, ◌%◌, Bool, true, false, ◌&&◌, not, List, [], ◌∷◌, length, nat_le, nat_lt, ◌==◌, if◌then◌else◌, Option, Some, None, is_some}
 use Rattle.std.specs.Option.{option_map_or}
-use Rattle.std.specs.Ordering.{nat_cmp}
 use Rattle.jp_types.specs.declared.message.Message.{Message}
 use Rattle.jp_types.specs.declared.message.SnapshotPart.{SnapshotPart}
-use Rattle.kv_service.specs.Entries
 use Rattle.kv_service.specs.Service.{State}
 use Rattle.kv_service.specs.StateReading.{state_in}
 use Rattle.paxos_world.specs.declared.step.Step.{Step}
 use Rattle.jp_types.specs.Instances.{Batch}
 use Rattle.paxos_world.specs.World.{Deed}
-use Rattle.kv_service.specs.Parts.{part_size}
 use Rattle.paxos_world.specs.Stage.{Snapshot, Stage, Turned}
 use Rattle.kv_service.specs.Parts.{Joiner}
 use Rattle.paxos_world.specs.Writing.{◌▹◌, when, when_some, for_each, with_stage, shows, says}

@@ -2,10 +2,7 @@
 use Rattle.std.specs.Prelude.{◌≡◌, ℕ, ◌<◌, List, [], ◌∷◌, Option, Some, None, ◌⊎◌}
 use Rattle.jp_types.specs.declared.message.Message.{Message}
 use Rattle.jp_types.specs.declared.message.Entry.{Entry}
-use Rattle.jp_types.specs.declared.command.Request.{Request}
 use Rattle.jp_types.specs.declared.mode.Phase.{Phase}
-use Rattle.jp_types.specs.declared.mode.Mode.{Mode}
-use Rattle.jp_types.specs.declared.mode.Mode.TheVariants.{ViewSs, EpochSs}
 use Rattle.kv_service.specs.Service.{State, start}
 use Rattle.paxos_world.specs.Setup.{In}
 use Rattle.jp_types.specs.Instances.{Batch}

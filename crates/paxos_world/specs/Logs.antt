@@ -1,11 +1,10 @@
 -- What a stage reads of its log: what is known, the span, the tallies, and the report.
-use Rattle.std.specs.Prelude.{ℕ, zero, suc, ◌+◌, min, max, Bool, ◌&&◌, ◌||◌, not, List, [], ◌∷◌, ◌++◌, filter, nat_le, nat_lt, ◌==◌, if◌then◌else◌, Option, Some, None, is_some}
+use Rattle.std.specs.Prelude.{ℕ, zero, suc, ◌+◌, min, max, Bool, ◌&&◌, ◌||◌, not, List, [], ◌∷◌, ◌++◌, filter, nat_le, nat_lt, ◌==◌, if◌then◌else◌, Option, None, is_some}
 use Rattle.std.specs.List.{list_any}
 use Rattle.jp_types.specs.declared.message.Entry.{Entry}
 use Rattle.jp_types.specs.Views.{number_limit, majority, count_below}
 use Rattle.paxos_world.specs.Life.{Life}
 use Rattle.jp_types.specs.Instances.{Batch}
-use Rattle.jp_types.specs.Reports.{decided_entry, voted_entry}
 use Rattle.paxos_world.specs.Stage.{Note, Stage}
 use Rattle.jp_types.specs.Instances.{span, first_unknown_from}
 use Rattle.jp_types.specs.Reports.{entry_by}

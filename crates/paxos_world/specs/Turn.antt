@@ -3,8 +3,6 @@ use Rattle.std.specs.Prelude.{ℕ, suc, ◌&&◌, not, List, [], ◌∷◌, ◌+
 use Rattle.std.specs.Option.{option_map}
 use Rattle.jp_types.specs.declared.message.Message.{Message}
 use Rattle.jp_types.specs.declared.mode.Phase.TheVariants.{Recovering, Working}
-use Rattle.jp_types.specs.declared.mode.Mode.{Mode}
-use Rattle.jp_types.specs.declared.mode.Mode.TheVariants.{ViewSs, EpochSs}
 use Rattle.paxos_world.specs.declared.step.Step.{Step}
 use Rattle.paxos_world.specs.Life.{Life, new_life}
 use Rattle.jp_types.specs.Instances.{Batch}
@@ -14,7 +12,6 @@ use Rattle.paxos_world.specs.Stage.{Config, Stage, Slot, new_stage, Item, Came, 
 use Rattle.paxos_world.specs.Writing.{◌▹◌, when, for_each, with_stage, says, says_to_all}
 use Rattle.paxos_world.specs.Logs.{first_undecided}
 use Rattle.paxos_world.specs.Retransmitting.{arms_recovery, cursor_after, claim}
-use Rattle.jp_types.specs.Views.{within_limit, next_not_led}
 use Rattle.paxos_world.specs.Leading.{works, leads_own, is_leading, begin_phase_1, suspect}
 use Rattle.paxos_world.specs.CatchingUp.{query_where_due, on_snapshot}
 use Rattle.paxos_world.specs.Messages.{on_message}

@@ -168,7 +168,7 @@ fn drawn(alloc: Global, words: &[&str]) -> Result<(Status, MemorySink), Fail> {
     Ok((status, sink))
 }
 
-// The texts are those that the definitions give, as schedules/proofs/Summaries.antt computes them.
+// The texts are those that the definitions give, as worked_schedules/proofs/Summaries.antt computes them.
 #[test]
 fn writes_the_summary_of_a_drawn_run(rt: HostRuntime) -> Result<(), Fail> {
     for (words, text) in [

@@ -1,9 +1,9 @@
--- A gap is filled by the empty batch.
+-- Proposals are taken out of order.
 use Rattle.std.specs.Prelude.{◌≡◌, ℕ, true, List, [], ◌∷◌, codes, refl}
 use Rattle.schedules.specs.Schedule.{read_schedule}
-use Rattle.schedules.proofs.Examples.{begins, joined, whole}
-use Rattle.schedules.proofs.Worlds.{ends_alike}
-use Rattle.schedules.proofs.Allowance.{all_allowed}
+use Rattle.worked_schedules.proofs.Examples.{begins, joined, whole}
+use Rattle.worked_schedules.proofs.Worlds.{ends_alike}
+use Rattle.worked_schedules.proofs.Allowance.{all_allowed}
 
 -- the lines of the schedule
 abbrev input : List (List ℕ)
@@ -28,16 +28,7 @@ input =
     codes "deliver 1 9" ∷
     codes "protocol 1" ∷
     codes "service 1" ∷
-    codes "crash 0" ∷
-    codes "suspect 1" ∷
-    codes "protocol 1" ∷
-    codes "deliver 2 14" ∷
-    codes "protocol 2" ∷
-    codes "deliver 1 15" ∷
-    codes "protocol 1" ∷
-    codes "deliver 2 17" ∷
-    codes "protocol 2" ∷
-    codes "deliver 1 21" ∷
+    codes "deliver 1 5" ∷
     codes "protocol 1" ∷
     codes "service 1" ∷
     codes "service 1" ∷
@@ -67,19 +58,10 @@ text =
     codes "deliver 1 9 = done" ∷
     codes "protocol 1 = done; vote 1 0 1; send 11 0 accept; send 12 2 accept; learn 1 1" ∷
     codes "service 1 = empty" ∷
-    codes "crash 0 = done; crash 0" ∷
-    codes "suspect 1 = done" ∷
-    codes "protocol 1 = done; enter 1 1; promise 1 1; send 13 0 prepare; send 14 2 prepare" ∷
-    codes "deliver 2 14 = done" ∷
-    codes "protocol 2 = done; enter 2 1; promise 2 1; send 15 1 promise" ∷
-    codes "deliver 1 15 = done" ∷
-    codes "protocol 1 = done; prepared 1 1 2; launch 1 1 0 -; vote 1 1 0; send 16 0 propose; send 17 2 propose; launch 1 1 1 2.1; vote 1 1 1; send 18 0 propose; send 19 2 propose" ∷
-    codes "deliver 2 17 = done" ∷
-    codes "protocol 2 = done; vote 2 1 0; send 20 0 accept; send 21 1 accept; learn 2 0" ∷
-    codes "deliver 1 21 = done" ∷
-    codes "protocol 1 = done; learn 1 0" ∷
-    codes "service 1 = done; execute 1 0" ∷
-    codes "service 1 = done; execute 1 1 2.1+none" ∷
+    codes "deliver 1 5 = done" ∷
+    codes "protocol 1 = done; vote 1 0 0; send 13 0 accept; send 14 2 accept; learn 1 0" ∷
+    codes "service 1 = done; execute 1 0 1.1+ok" ∷
+    codes "service 1 = done; execute 1 1 2.1+value:31" ∷
     []
 
 -- the run is written so

@@ -1,9 +1,9 @@
 -- Each answer word, and a full lane.
 use Rattle.std.specs.Prelude.{◌≡◌, ℕ, true, List, [], ◌∷◌, codes, refl}
 use Rattle.schedules.specs.Schedule.{read_schedule}
-use Rattle.schedules.proofs.Examples.{begins, joined, whole}
-use Rattle.schedules.proofs.Worlds.{ends_alike}
-use Rattle.schedules.proofs.Allowance.{all_allowed}
+use Rattle.worked_schedules.proofs.Examples.{begins, joined, whole}
+use Rattle.worked_schedules.proofs.Worlds.{ends_alike}
+use Rattle.worked_schedules.proofs.Allowance.{all_allowed}
 
 -- the lines of the schedule
 abbrev input : List (List ℕ)

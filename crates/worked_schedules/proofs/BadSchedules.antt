@@ -4,7 +4,7 @@ use Rattle.jp_types.specs.declared.cause.Cause.{Cause}
 use Rattle.jp_types.specs.declared.cause.Cause.TheVariants.{NoCluster, Unknown, Operands, Number, BadMode, Bytes, BadCommand, NoEnd, AfterEnd, Text}
 use Rattle.schedules.specs.declared.schedule.Schedule.{Schedule}
 use Rattle.schedules.specs.Schedule.{Bad, read_schedule}
-use Rattle.schedules.proofs.Examples.{joined}
+use Rattle.worked_schedules.proofs.Examples.{joined}
 
 -- no schedule, but a wrong line
 abbrev bad : ℕ → Cause → Result Schedule Bad

@@ -21,8 +21,8 @@ use Rattle.jp_types.specs.Reports.{entry_by}
 use Rattle.schedules.specs.declared.schedule.Schedule.{Schedule}
 use Rattle.schedules.specs.Schedule.{Bad}
 use Rattle.schedules.specs.Run.{moves_of_run}
-use Rattle.schedules.proofs.Codes.{entry_code, same_message, same_batch, same_life, same_next}
-use Rattle.schedules.proofs.Worlds.{setup_of_run}
+use Rattle.worked_schedules.proofs.Codes.{entry_code, same_message, same_batch, same_life, same_next}
+use Rattle.worked_schedules.proofs.Worlds.{setup_of_run}
 
 -- the bound: the examples reach no instance from here on
 abbrev bound : ℕ

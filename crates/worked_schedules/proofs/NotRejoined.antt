@@ -1,9 +1,9 @@
--- ViewSS, two crashes: the answer to the first mark is not held.
+-- The answer of a leader that is not Prepared does not license rejoining.
 use Rattle.std.specs.Prelude.{◌≡◌, ℕ, true, List, [], ◌∷◌, codes, refl}
 use Rattle.schedules.specs.Schedule.{read_schedule}
-use Rattle.schedules.proofs.Examples.{begins, joined, whole}
-use Rattle.schedules.proofs.Worlds.{ends_alike}
-use Rattle.schedules.proofs.Allowance.{all_allowed}
+use Rattle.worked_schedules.proofs.Examples.{gives, joined, whole}
+use Rattle.worked_schedules.proofs.Worlds.{ends_alike}
+use Rattle.worked_schedules.proofs.Allowance.{all_allowed}
 
 -- the lines of the schedule
 abbrev input : List (List ℕ)
@@ -29,19 +29,10 @@ input =
     codes "protocol 2" ∷
     codes "deliver 2 11" ∷
     codes "protocol 2" ∷
-    codes "deliver 1 8" ∷
-    codes "protocol 1" ∷
-    codes "deliver 0 12" ∷
-    codes "protocol 0" ∷
-    codes "retransmit 2" ∷
-    codes "deliver 0 13" ∷
-    codes "protocol 0" ∷
-    codes "deliver 2 15" ∷
-    codes "protocol 2" ∷
     codes "end" ∷
     []
 
--- how the text begins
+-- the text, whole
 abbrev text : List (List ℕ)
 text =
     codes "cluster 3 viewss 4 = done; first 0; promise 0 0; send 0 1 prepare; send 1 2 prepare; first 1; first 2" ∷
@@ -65,20 +56,15 @@ text =
     codes "protocol 2 = done" ∷
     codes "deliver 2 11 = done" ∷
     codes "protocol 2 = done" ∷
-    codes "deliver 1 8 = done" ∷
-    codes "protocol 1 = done; promise 1 3; send 12 0 promise" ∷
-    codes "deliver 0 12 = done" ∷
-    codes "protocol 0 = done; prepared 0 3 0" ∷
-    codes "retransmit 2 = done; send 13 0 recovery; send 14 1 recovery" ∷
-    codes "deliver 0 13 = done" ∷
-    codes "protocol 0 = done; answer 0 2 3 0; send 15 2 answer" ∷
-    codes "deliver 2 15 = done" ∷
-    codes "protocol 2 = done; rejoin 2 3" ∷
+    codes "end = done" ∷
+    codes "replica 0 working 3 0" ∷
+    codes "replica 1 working 3 0" ∷
+    codes "replica 2 recovering 3 0" ∷
     []
 
 -- the run is written so
-pub holds : begins input text ≡ true
-unfolding begins
+pub holds : gives input text ≡ true
+unfolding gives
 holds = refl
 
 -- its steps of the world send what it sends, and leave the same numbers on the disks

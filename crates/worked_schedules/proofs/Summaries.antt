@@ -2,7 +2,7 @@
 use Rattle.std.specs.Prelude.{◌≡◌, ℕ, Bool, true, List, [], ◌∷◌, bytes_eq, codes, refl}
 use Rattle.schedules.specs.Run.{run_of}
 use Rattle.schedules.specs.Generator.{generate, summary}
-use Rattle.schedules.proofs.Examples.{joined, whole}
+use Rattle.worked_schedules.proofs.Examples.{joined, whole}
 
 -- whether the summary for a seed, a count of replicas and a count of lines is this
 unfoldable pub sums_up : ℕ → ℕ → ℕ → List (List ℕ) → Bool

@@ -7,7 +7,7 @@ use Rattle.schedules.specs.declared.schedule.Schedule.{Schedule}
 use Rattle.schedules.specs.Schedule.{Bad}
 use Rattle.schedules.specs.Run.{first_event, cluster_after, moves_of_run}
 use Rattle.schedules.specs.Cluster.{Cluster}
-use Rattle.schedules.proofs.Codes.{message_code}
+use Rattle.worked_schedules.proofs.Codes.{message_code}
 
 -- the constants of a schedule's world
 abbrev pub setup_of_run : Schedule → Setup
