@@ -21,12 +21,31 @@ use Rattle.cluster_laws.proofs.ReadFit.{within, schedules_within}
 use Rattle.cluster_laws.proofs.Whole as whole
 use Rattle.run_laws.specs.Laws as run_laws
 use Rattle.run_laws.proofs.Whole.{runs_alike, runs_past_alike, drawn_alike, drawn_past_alike, generated_is_runnable}
+use Rattle.step_laws.proofs.Counting.{counts_quiet_exactly, handed_exactly, waits_exactly}
+use Rattle.step_laws.proofs.Entering.{answers_exactly, enters_exactly, promises_exactly}
+use Rattle.step_laws.proofs.Handing.{hands_on_exactly}
+use Rattle.step_laws.proofs.Installing.{installs_exactly}
+use Rattle.step_laws.proofs.Learning.{learns_exactly}
+use Rattle.step_laws.proofs.Saving.{repeats_only, saves_exactly, shows_no_other}
+use Rattle.step_laws.proofs.Sending.{repeats_exactly, sends_exactly}
+use Rattle.step_laws.proofs.Settling.{launches_exactly, prepared_exactly, rejoins_exactly}
+use Rattle.step_laws.proofs.Voting.{votes_exactly}
 use Rattle.jpaxos.specs.declared.answer.Answer.{Answer}
 use Rattle.jpaxos.specs.Answers.{Fits, IsShown, IsRunnable, IsDrawnAnswer, IsRunAnswer, IsAnswer, IsSummary, IsClusterStatus, IsTold, Answers}
-use Rattle.jpaxos.specs.Headline.{Headline}
+use Rattle.jpaxos.specs.Headline.{Headline, TurnsAreExact}
 use Rattle.jpaxos.specs.Words.{refusal}
 
 -- ---- The laws of a run
+
+-- the turns do exactly what the protocol says
+exact_turns : TurnsAreExact
+exact_turns =
+    record {
+      enters = enters_exactly; promises = promises_exactly; prepared = prepared_exactly; launches = launches_exactly; votes = votes_exactly; learns = learns_exactly;
+      installs = installs_exactly; answers = answers_exactly; rejoins = rejoins_exactly; no_other = shows_no_other;
+      hands_on = hands_on_exactly; handed = handed_exactly; sends = sends_exactly; saves = saves_exactly;
+      waits = waits_exactly; quiet = counts_quiet_exactly; repeats = repeats_exactly; repeats_only = repeats_only;
+    }
 
 -- the laws hold of the run of a schedule within the limits
 headline : (s : Schedule) → IsSchedule s → Headline s
@@ -38,6 +57,7 @@ headline s h =
       replies = record { shown = whole.replies s states-read h; first = whole.first_shows_none s states-read h };
       recovering_is_silent = whole.recovering_is_silent s states-read h;
       rejoins_exactly = record { met = whole.rejoins s states-read h; due = whole.rejoins_due s states-read h };
+      turns_are_exact = exact_turns;
     }
 
 -- a schedule within its ranges is one whose run is that of the model

@@ -1,6 +1,7 @@
 -- What holds of the run of a schedule.
 use Rattle.schedules.specs.declared.schedule.Schedule.{Schedule}
 use Rattle.cluster_laws.specs.Laws as laws
+use Rattle.step_laws.specs.Laws as turns
 
 -- the run has one event a line, which is what happens at it; the steps of the run are steps of the world, each allowed where it comes; after each line its messages, lives and numbers are the world's; and each line shows just its steps
 pub record IsWorldRun (s : Schedule) : Type 0 where
@@ -33,6 +34,27 @@ pub record RejoinsExactly (s : Schedule) : Type 0 where
   pub met : laws.Rejoins s
   pub due : laws.RejoinsDue s
 
+-- the turns of a Protocol stage, of which the run of every schedule is made, do exactly what the protocol says: which steps a turn shows, each kind by its own condition, what it hands on, sends, saves, keeps waiting and counts, and what a repeat sends
+pub record TurnsAreExact : Type 0 where
+  pub enters : turns.EntersExactly
+  pub promises : turns.PromisesExactly
+  pub prepared : turns.PreparedExactly
+  pub launches : turns.LaunchesExactly
+  pub votes : turns.VotesExactly
+  pub learns : turns.LearnsExactly
+  pub installs : turns.InstallsExactly
+  pub answers : turns.AnswersExactly
+  pub rejoins : turns.RejoinsExactly
+  pub no_other : turns.ShowsNoOther
+  pub hands_on : turns.HandsOnExactly
+  pub handed : turns.HandedExactly
+  pub sends : turns.SendsExactly
+  pub saves : turns.SavesExactly
+  pub waits : turns.WaitsExactly
+  pub quiet : turns.CountsQuietExactly
+  pub repeats : turns.RepeatsExactly
+  pub repeats_only : turns.RepeatsOnly
+
 -- what holds of the run of a schedule
 pub record Headline (s : Schedule) : Type 0 where
   pub world_run : IsWorldRun s
@@ -42,3 +64,4 @@ pub record Headline (s : Schedule) : Type 0 where
   -- a Recovering life does not promise, vote, launch, enter a view or answer a recovery
   pub recovering_is_silent : laws.RecoveringIsSilent s
   pub rejoins_exactly : RejoinsExactly s
+  pub turns_are_exact : TurnsAreExact
