@@ -41,10 +41,24 @@ use Rattle.jpaxos.specs.Words.{refusal}
 exact_turns : TurnsAreExact
 exact_turns =
     record {
-      enters = enters_exactly; promises = promises_exactly; prepared = prepared_exactly; launches = launches_exactly; votes = votes_exactly; learns = learns_exactly;
-      installs = installs_exactly; answers = answers_exactly; rejoins = rejoins_exactly; no_other = shows_no_other;
-      hands_on = hands_on_exactly; handed = handed_exactly; sends = sends_exactly; saves = saves_exactly;
-      waits = waits_exactly; quiet = counts_quiet_exactly; repeats = repeats_exactly; repeats_only = repeats_only;
+      enters = enters_exactly;
+      promises = promises_exactly;
+      prepared = prepared_exactly;
+      launches = launches_exactly;
+      votes = votes_exactly;
+      learns = learns_exactly;
+      installs = installs_exactly;
+      answers = answers_exactly;
+      rejoins = rejoins_exactly;
+      no_other = shows_no_other;
+      hands_on = hands_on_exactly;
+      handed = handed_exactly;
+      sends = sends_exactly;
+      saves = saves_exactly;
+      waits = waits_exactly;
+      quiet = counts_quiet_exactly;
+      repeats = repeats_exactly;
+      repeats_only = repeats_only;
     }
 
 -- the laws hold of the run of a schedule within the limits
