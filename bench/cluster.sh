@@ -9,15 +9,19 @@ import os, sys, tempfile, time
 
 PROGRAM = sys.argv[1]
 LINES = 100_000
-RUNS = 7
+RUNS = 25
 # requests that go into one batch, and after how many executed instances each replica takes a snapshot
 BATCH, SNAPSHOT = 5, 256
 
 
-def many_requests():
-    """A schedule of so many lines, in which three replicas execute each request: a leader that is Prepared proposes batch
-    after batch, and the three learn and execute each one."""
-    lines = ["cluster 3 viewss 8", "deliver 1 0", "protocol 1", "deliver 0 2", "protocol 0"]
+def many_requests(schedule):
+    """Writes a schedule of so many lines, in which three replicas execute each request: a leader that is Prepared proposes
+    batch after batch, and the three learn and execute each one."""
+    def write(lines):
+        schedule.write("".join(line + "\n" for line in lines).encode())
+        return len(lines)
+
+    written = write(["cluster 3 viewss 8", "deliver 1 0", "protocol 1", "deliver 0 2", "protocol 0"])
     sent, instance = 3, 0
     while True:
         turn = []
@@ -32,18 +36,20 @@ def many_requests():
         sent, instance = sent + 8, instance + 1
         if instance % SNAPSHOT == 0:
             turn += ["protocol 0", "protocol 1", "protocol 2"]
-        if len(lines) + len(turn) > LINES - 1:
+        if written + len(turn) > LINES - 1:
             break
-        lines += turn
-    lines += ["service 0"] * (LINES - 1 - len(lines)) + ["end"]
-    return "".join(line + "\n" for line in lines).encode()
+        written += write(turn)
+    while written < LINES - 1:
+        written += write(["service 0"])
+    write(["end"])
+    schedule.flush()
 
 
-def run(words, given):
-    """The seconds and the most memory, in megabytes, of one run, and what it wrote."""
-    with tempfile.TemporaryFile() as source, tempfile.TemporaryFile() as sink:
-        source.write(given)
-        source.seek(0)
+def run(words, source):
+    """The seconds and the most memory, in megabytes, of one run, and how many requests it executed in how many batches. The
+    system counts at least the memory of this script itself, so that keeps no text."""
+    source.seek(0)
+    with tempfile.TemporaryFile() as sink:
         begun = time.perf_counter()
         child = os.posix_spawn(
             PROGRAM, [PROGRAM, *words], os.environ,
@@ -54,30 +60,34 @@ def run(words, given):
         if os.waitstatus_to_exitcode(status) != 0:
             sys.exit(f"bench/cluster.sh: {' '.join(words)} ended with status {os.waitstatus_to_exitcode(status)}")
         sink.seek(0)
-        return seconds, usage.ru_maxrss / 1024, sink.read()
+        executed = [(line.count(b"+ok"), line.count(b"; execute ")) for line in sink if b"; execute " in line]
+    return seconds, usage.ru_maxrss / 1024, sum(ok for ok, _ in executed), sum(batches for _, batches in executed)
 
 
-def quickest(words, given):
-    """The seconds of the quickest of some runs, the most memory that one took, and what it wrote. Other work on the machine
-    only adds to the time of a run, so that the quickest tells the most."""
-    runs = [run(words, given) for _ in range(RUNS)]
-    return min(seconds for seconds, _, _ in runs), max(memory for _, memory, _ in runs), runs[-1][2]
+def quickest(cases):
+    """For each case the seconds of its quickest run, the most memory that one took, and what the last one executed. Other
+    work on the machine only adds to the time of a run, so that the quickest tells the most. The cases take turns, so that a
+    while in which the machine is slow does not meet one of them alone."""
+    runs = [[run(words, source) for words, source in cases] for _ in range(RUNS)]
+    return [
+        (min(seconds for seconds, *_ in own), max(memory for _, memory, *_ in own), *own[-1][2:])
+        for own in zip(*runs)
+    ]
 
 
 def show(name, lines, seconds, memory, rest=""):
     print(f"{name:28} {lines:7} lines {seconds:8.3f} s {lines / seconds:12,.0f} lines/s {memory:8.1f} MB{rest}", flush=True)
 
 
-times = {}
-for seed, n, steps in [(7, 5, 20_000), (7, 5, 99_998), (8, 9, 99_998)]:
-    seconds, memory, _ = quickest(["gen", str(seed), str(n), str(steps)], b"")
-    times[(seed, n, steps)] = seconds
+DRAWN = [(7, 5, 20_000), (7, 5, 99_998), (8, 9, 99_998)]
+with tempfile.TemporaryFile() as nothing, tempfile.TemporaryFile() as schedule:
+    many_requests(schedule)
+    cases = [(["gen", *(str(number) for number in drawn)], nothing) for drawn in DRAWN] + [(["cluster"], schedule)]
+    *drawn_runs, (seconds, memory, executed, batches) = quickest(cases)
+for (seed, n, steps), (drawn_seconds, drawn_memory, *_) in zip(DRAWN, drawn_runs):
     bound = "   (bounds: 2 s, 400 MB)" if (seed, n, steps) == (7, 5, 99_998) else ""
-    show(f"gen {seed} {n} {steps}", steps + 2, seconds, memory, bound)
-print(f"gen 7 5: five times the steps take {times[(7, 5, 99_998)] / times[(7, 5, 20_000)]:.2f} times as long   (bound: 7)")
-
-schedule = many_requests()
-seconds, memory, text = quickest(["cluster"], schedule)
+    show(f"gen {seed} {n} {steps}", steps + 2, drawn_seconds, drawn_memory, bound)
+print(f"gen 7 5: five times the steps take {drawn_runs[1][0] / drawn_runs[0][0]:.2f} times as long   (bound: 7)")
 show("cluster, many requests", LINES, seconds, memory)
-print(f"requests executed: {text.count(b'+ok')}, in {text.count(b'; execute ')} batches")
+print(f"requests executed: {executed}, in {batches} batches")
 PYTHON
