@@ -19,6 +19,7 @@ use Rattle.cluster_laws.specs.Laws.{IsSchedule}
 use Rattle.cluster_laws.proofs.Chosen as chosen
 use Rattle.cluster_laws.proofs.ReadFit.{within, schedules_within}
 use Rattle.cluster_laws.proofs.Whole as whole
+use Rattle.request_laws.proofs.Asking as asking
 use Rattle.run_laws.specs.Laws as run_laws
 use Rattle.run_laws.proofs.Whole.{runs_alike, runs_past_alike, drawn_alike, drawn_past_alike, generated_is_runnable}
 use Rattle.step_laws.proofs.Counting.{counts_quiet_exactly, handed_exactly, waits_exactly}
@@ -67,6 +68,7 @@ headline s h =
     record {
       world_run = record { told = chosen.is_told s; run = whole.world_run s states-read h; same = whole.world_same s states-read h; shown = whole.all_shown s states-read h };
       one_list = record { chosen = chosen.list_chosen s states-read h; one = chosen.one_is_chosen s states-read h; stand = whole.one_list s states-read h; states = whole.states_listed s states-read h; known = whole.known_same s states-read h; known_chosen = chosen.known_is_chosen s states-read h };
+      requests_are_asked = record { list = asking.list_is_asked s states-read h; known = asking.known_is_asked s states-read h; stores = asking.stores_are_asked s states-read h };
       at_most_once = record { first = whole.at_most_once s; life = whole.executes_once s states-read h };
       replies = record { shown = whole.replies s states-read h; first = whole.first_shows_none s states-read h };
       recovering_is_silent = whole.recovering_is_silent s states-read h;

@@ -1,6 +1,7 @@
 -- What holds of the run of a schedule.
 use Rattle.schedules.specs.declared.schedule.Schedule.{Schedule}
 use Rattle.cluster_laws.specs.Laws as laws
+use Rattle.request_laws.specs.Laws as requests
 use Rattle.step_laws.specs.Laws as turns
 
 -- the run has one event a line, which is what happens at it; the steps of the run are steps of the world, each allowed where it comes; after each line its messages, lives and numbers are the world's; and each line shows just its steps
@@ -18,6 +19,12 @@ pub record HasOneList (s : Schedule) : Type 0 where
   pub states : laws.StatesListed s
   pub known : laws.KnownSame s
   pub known_chosen : laws.KnownIsChosen s
+
+-- no request comes from nowhere: the one list, what a replica knows after some lines, and the batches that led to its store by then, have only requests for which a line asked that was answered `done`
+pub record RequestsAreAsked (s : Schedule) : Type 0 where
+  pub list : requests.ListIsAsked s
+  pub known : requests.KnownIsAsked s
+  pub stores : requests.StoresAreAsked s
 
 -- over that list each request takes effect once at most, and a life executes an instance once at most
 pub record ExecutesOnce (s : Schedule) : Type 0 where
@@ -59,6 +66,7 @@ pub record TurnsAreExact : Type 0 where
 pub record Headline (s : Schedule) : Type 0 where
   pub world_run : IsWorldRun s
   pub one_list : HasOneList s
+  pub requests_are_asked : RequestsAreAsked s
   pub at_most_once : ExecutesOnce s
   pub replies : TellsReplies s
   -- a Recovering life does not promise, vote, launch, enter a view or answer a recovery

@@ -1,0 +1,5 @@
+pub mod Origin
+pub mod Messages
+pub mod Turning
+pub mod Lanes
+pub mod Asking
