@@ -68,7 +68,7 @@ headline s h =
     record {
       world_run = record { told = chosen.is_told s; run = whole.world_run s states-read h; same = whole.world_same s states-read h; shown = whole.all_shown s states-read h };
       one_list = record { chosen = chosen.list_chosen s states-read h; one = chosen.one_is_chosen s states-read h; stand = whole.one_list s states-read h; states = whole.states_listed s states-read h; known = whole.known_same s states-read h; known_chosen = chosen.known_is_chosen s states-read h };
-      requests_are_asked = record { list = asking.list_is_asked s states-read h; known = asking.known_is_asked s states-read h; stores = asking.stores_are_asked s states-read h };
+      requests_are_asked = record { list = asking.list_is_asked s states-read h; known = asking.known_is_asked s states-read h; stores = asking.stores_are_asked s states-read h; states = asking.states_are_asked s states-read h };
       at_most_once = record { first = whole.at_most_once s; life = whole.executes_once s states-read h };
       replies = record { shown = whole.replies s states-read h; first = whole.first_shows_none s states-read h };
       recovering_is_silent = whole.recovering_is_silent s states-read h;

@@ -20,11 +20,12 @@ pub record HasOneList (s : Schedule) : Type 0 where
   pub known : laws.KnownSame s
   pub known_chosen : laws.KnownIsChosen s
 
--- no request comes from nowhere: the one list, what a replica knows after some lines, and the batches that led to its store by then, have only requests for which a line asked that was answered `done`
+-- each request was asked for: the one list has only requests for which a line asked that was answered `done`. What a replica knows after some lines has only such requests of these lines, and so have those batches of the one list that led to its store by then, and to each state that it had or installed
 pub record RequestsAreAsked (s : Schedule) : Type 0 where
   pub list : requests.ListIsAsked s
   pub known : requests.KnownIsAsked s
   pub stores : requests.StoresAreAsked s
+  pub states : requests.StatesAreAsked s
 
 -- over that list each request takes effect once at most, and a life executes an instance once at most
 pub record ExecutesOnce (s : Schedule) : Type 0 where

@@ -1,11 +1,13 @@
--- The one list of every schedule's run has only requests for which the schedule asks.
-use Rattle.std.proofs.Common.{◌≡◌, ℕ, zero, suc, ◌≤◌, List, [], ◌∷◌, ◌++◌, replicate, slice_get, Some, None, refl, sym, ap, subst, ◌∙◌, inl, inr, append-nil, append_assoc}
+-- The run of every schedule has only requests for which the schedule asks: in the one list, in what a replica knows, and in what led to its store.
+use Rattle.std.proofs.Common.{◌≡◌, ℕ, zero, suc, ◌+◌, ◌≤◌, ◌<◌, arith, List, [], ◌∷◌, ◌++◌, length, take, replicate, slice_get, Some, None, refl, sym, ap, subst, ◌∙◌, inl, inr, append-nil, append_assoc}
 use Rattle.jp_types.specs.declared.command.Request.{Request}
 use Rattle.jp_types.specs.Instances.{Batch}
-use Rattle.paxos_world.specs.Served.{AreChosenIn}
-use Rattle.paxos_world.specs.Setup.{In}
+use Rattle.paxos_world.specs.Served.{AreChosenIn, Stands}
+use Rattle.paxos_world.proofs.Basics.{In-left}
+use Rattle.kv_service.specs.Service.{State}
+use Rattle.paxos_world.specs.Setup.{Setup, In}
 use Rattle.paxos_world.specs.Trace.{IsChosenIn, IsRun, end_of}
-use Rattle.paxos_world.specs.World.{World, Sent, Move, opening}
+use Rattle.paxos_world.specs.World.{World, Ballot, Sent, Move, ballots, after, opening}
 use Rattle.schedules.specs.declared.line.Head.{Head}
 use Rattle.schedules.specs.declared.line.Line.{Line}
 use Rattle.schedules.specs.declared.line.Word.TheVariants.{Done}
@@ -13,13 +15,13 @@ use Rattle.schedules.specs.declared.schedule.Schedule.{Schedule}
 use Rattle.schedules.specs.Cluster.{Place, Cluster, Happened, fresh_place, fresh_cluster}
 use Rattle.schedules.specs.Run.{refused, start_by, first_starts, first_event, event, cluster_after}
 use Rattle.turn_laws.specs.Limits.{StatesRead}
-use Rattle.cluster_laws.specs.Laws.{IsSchedule, setup_of_run, steps_of_run, list_of_run, steps_over, steps_after, after_lines}
+use Rattle.cluster_laws.specs.Laws.{IsSchedule, setup_of_run, steps_of_run, list_of_run, end_of_run, steps_over, steps_after, after_lines}
 use Rattle.cluster_laws.proofs.Beside.{setup_at, Matches}
-use Rattle.cluster_laws.proofs.Chosen.{list_chosen}
+use Rattle.cluster_laws.proofs.Chosen.{list_chosen, one_is_chosen}
 use Rattle.cluster_laws.proofs.Lines.{happens-start, happens-event}
-use Rattle.cluster_laws.proofs.Schedules.{Reached, reached-fresh, reached-more, LinesTrue, joined-run}
-use Rattle.cluster_laws.proofs.Whole.{runs-life, one_list}
-use Rattle.request_laws.specs.Laws.{IsAsked, AreAsked, ListIsAsked, KnownIsAsked, StoresAreAsked}
+use Rattle.cluster_laws.proofs.Schedules.{end-append, Reached, reached-fresh, reached-more, LinesTrue, joined-run}
+use Rattle.cluster_laws.proofs.Whole.{runs-life, one_list, parted, states_listed}
+use Rattle.request_laws.specs.Laws.{IsAsked, AreAsked, ListIsAsked, KnownIsAsked, StoresAreAsked, StatesAreAsked, IsLedByAsked}
 use Rattle.request_laws.proofs.Origin.{SentMeet, known-in, chosen-in}
 use Rattle.request_laws.proofs.Lanes.{ClusterMeets, Present, LineMeets, after-start, after-event}
 
@@ -139,7 +141,7 @@ none-asked s lines request n = absurd n
 sent-asked : (s : Schedule) (lines : List Line) (moves : List Move) (cl : Cluster) → Asks (λ request. IsAsked s lines request) s.head moves cl → SentMeet (λ batch. AreAsked s lines batch) (end_of (setup_of_run s) opening moves).sent
 sent-asked s lines moves cl h = subst (λ (xs : List Sent). SentMeet (λ batch. AreAsked s lines batch) xs) (sym h.reached.matches.sent) h.meets.sent
 
--- what a replica knows
+-- what a replica knows was asked for
 pub known_is_asked : (s : Schedule) → StatesRead → IsSchedule s → KnownIsAsked s
 known_is_asked s reads is lines more e r i a batch up k =
     let h = asks-by s reads is lines more e in
@@ -153,7 +155,7 @@ listed-chosen n w i [] h batch m = absurd m
 listed-chosen n w i (b ∷ batches) h batch (inl e) = (h.0.0, i, subst (λ (x : Batch). IsChosenIn n w h.0.0 i x) (sym e) h.0.1)
 listed-chosen n w i (b ∷ batches) h batch (inr m) = listed-chosen n w (suc i) batches h.1 batch m
 
--- what is listed
+-- what is listed was asked for
 pub list_is_asked : (s : Schedule) → StatesRead → IsSchedule s → ListIsAsked s
 list_is_asked s reads is batch n =
     let h = asks-by s reads is s.lines [] (sym (append-nil s.lines)) in
@@ -176,13 +178,75 @@ cut-schedule s lines more e is =
 cut-asked : (s : Schedule) (lines : List Line) (request : Request) → IsAsked (cut_at s lines) lines request → IsAsked s lines request
 cut-asked s lines request h = record { replica = h.replica; before = h.before; behind = h.behind; split = h.split; done = h.done }
 
--- the store of a replica, by the list of the run up to these lines
-pub stores_are_asked : (s : Schedule) → StatesRead → IsSchedule s → StoresAreAsked s
-stores_are_asked s reads is lines more e r a up =
+-- ---- The one list of the run up to these lines is a front of the one list of the whole run
+
+votes-stay : (c : Setup) (w : World) (moves : List Move) (b : Ballot) → In b w.votes → In b (end_of c w moves).votes
+votes-stay c w [] b n = n
+votes-stay c w (m ∷ ms) b n = votes-stay c (after c w m) ms b (In-left b w.votes (ballots w m) n)
+
+chosen-stays : (c : Setup) (w : World) (moves : List Move) (view i : ℕ) (batch : Batch) → IsChosenIn c.n w view i batch → IsChosenIn c.n (end_of c w moves) view i batch
+chosen-stays c w moves view i batch h =
+    record { members = h.members; quorum = h.quorum; voted = λ p lt e. (let k = h.voted p lt e in (k.0, votes-stay c w moves _ k.1)) }
+
+-- a batch of a front stands at some place of it
+in-take : (k : ℕ) (xs : List Batch) (x : Batch) → In x (take k xs) → (j : ℕ) × (j < k) × (slice_get xs j ≡ Some x)
+in-take zero xs x n = absurd n
+in-take (suc k) [] x n = absurd n
+in-take (suc k) (y ∷ ys) x (inl e) = (0, omega arith, ap (λ (z : Batch). Some z) (sym e))
+in-take (suc k) (y ∷ ys) x (inr n) = let h = in-take k ys x n in let lt = h.1 in (suc h.0, omega arith, h.2)
+
+-- there is a batch at each place below the length
+place-has : (xs : List Batch) (j : ℕ) → j < length xs → (x : Batch) × (slice_get xs j ≡ Some x)
+place-has [] j lt = absurd (omega arith)
+place-has (y ∷ ys) zero lt = (y, refl)
+place-has (y ∷ ys) (suc j) lt = place-has ys j (omega arith)
+
+get-in : (xs : List Batch) (j : ℕ) (x : Batch) → slice_get xs j ≡ Some x → In x xs
+get-in [] j x e = absurd cc
+get-in (y ∷ ys) zero x e = let f : y ≡ x = cc in inl (sym f)
+get-in (y ∷ ys) (suc j) x e = inr (get-in ys j x e)
+
+-- the batch at a place of a list is chosen there
+place-chosen : (n : ℕ) (w : World) (i j m : ℕ) (xs : List Batch) (x : Batch) → AreChosenIn n w i xs → slice_get xs j ≡ Some x → i + j ≡ m → (view : ℕ) × IsChosenIn n w view m x
+place-chosen n w i j m [] x h e is = absurd cc
+place-chosen n w i zero m (y ∷ ys) x h e is =
+    let f : y ≡ x = cc in
+    let same : i ≡ m = omega arith in
+    (h.0.0, subst (λ (z : Batch). IsChosenIn n w h.0.0 m z) f (subst (λ (k : ℕ). IsChosenIn n w h.0.0 k y) same h.0.1))
+place-chosen n w i (suc j) m (y ∷ ys) x h e is = place-chosen n w (suc i) j m ys x h.1 e (omega arith)
+
+-- a batch of the whole run's list, at a place that the shorter list has too, is in the shorter list
+front-listed : (s : Schedule) → StatesRead → (is : IsSchedule s) → (lines more : List Line) → s.lines ≡ lines ++ more → (j : ℕ) (batch : Batch) → j < length (list_of_run (cut_at s lines))
+    → slice_get (list_of_run s) j ≡ Some batch → In batch (list_of_run (cut_at s lines))
+front-listed s reads is lines more e j batch lt at =
     let cut = cut_at s lines in
     let within = cut-schedule s lines more e is in
-    record {
-      batches = list_of_run cut;
-      asked = λ batch n request m. cut-asked s lines request (list_is_asked cut reads within batch n request m);
-      stands = one_list cut reads within lines [] (sym (append-nil lines)) r a up;
-    }
+    let c = setup_of_run s in
+    let n = s.head.n in
+    let rest = steps_over (after_lines s lines) more in
+    let x = place-has (list_of_run cut) j lt in
+    let zeroes : 0 + j ≡ j = omega arith in
+    let a = place-chosen n (end_of_run cut) 0 j j (list_of_run cut) x.0 (list_chosen cut reads within).chosen x.1 zeroes in
+    let b = place-chosen n (end_of_run s) 0 j j (list_of_run s) batch (list_chosen s reads is).chosen at zeroes in
+    let ends : end_of c (end_of_run cut) rest ≡ end_of_run s
+    = sym (end-append c opening (steps_of_run cut) rest) ∙ ap (λ (ms : List Move). end_of c opening (ms ++ rest)) (joined-run cut) ∙ ap (λ (ms : List Move). end_of c opening ms) (sym (parted s lines more e)) in
+    let later : IsChosenIn n (end_of_run s) a.0 j x.0 = subst (λ (w : World). IsChosenIn n w a.0 j x.0) ends (chosen-stays c (end_of_run cut) rest a.0 j x.0 a.1) in
+    let same : batch ≡ x.0 = one_is_chosen s reads is j b.0 a.0 batch x.0 b.1 later in
+    subst (λ (y : Batch). In y (list_of_run cut)) (sym same) (get-in (list_of_run cut) j x.0 x.1)
+
+-- what led to a state that stands on the shorter list
+led-by-asked : (s : Schedule) → StatesRead → (is : IsSchedule s) → (lines more : List Line) → s.lines ≡ lines ++ more → (x : State) → Stands (list_of_run (cut_at s lines)) x → IsLedByAsked s lines x
+led-by-asked s reads is lines more e x stands batch n request m =
+    let p = in-take x.executed (list_of_run s) batch n in
+    let lt = p.1 in
+    let le = stands.within in
+    cut-asked s lines request
+    (list_is_asked (cut_at s lines) reads (cut-schedule s lines more e is) batch (front-listed s reads is lines more e p.0 batch (omega arith) p.2) request m)
+
+pub stores_are_asked : (s : Schedule) → StatesRead → IsSchedule s → StoresAreAsked s
+stores_are_asked s reads is lines more e r a up =
+    led-by-asked s reads is lines more e a.stage.life.service (one_list (cut_at s lines) reads (cut-schedule s lines more e is) lines [] (sym (append-nil lines)) r a up)
+
+pub states_are_asked : (s : Schedule) → StatesRead → IsSchedule s → StatesAreAsked s
+states_are_asked s reads is lines more e r a up x n =
+    led-by-asked s reads is lines more e x (states_listed (cut_at s lines) reads (cut-schedule s lines more e is) lines [] (sym (append-nil lines)) r a up x n)

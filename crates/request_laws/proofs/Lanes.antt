@@ -1,4 +1,4 @@
--- What a cluster has sent, and what waits at its replicas, stays as asked at each line.
+-- What holds of each request that was asked for holds, after each line, of all requests in what a cluster has sent and in what waits at its replicas.
 use Rattle.std.proofs.Common.{◌≡◌, ℕ, suc, ◌-◌, ◌≤◌, Bool, true, false, ◌&&◌, ◌||◌, List, [], ◌∷◌, ◌++◌, length, slice_get, slice_set, if◌then◌else◌, ◌==◌, nat_lt, Option, Some, None, option_map, refl, sym, ap, subst, ◌∙◌, inl, inr, ⊎_elim}
 use Rattle.jp_types.specs.declared.command.Request.{Request}
 use Rattle.jp_types.specs.declared.message.Message.{Message}

@@ -1,4 +1,4 @@
--- Each batch that was launched in a run is in a Propose that was sent. So what holds of the batch of each Propose holds of all that is voted on, known, chosen, reported and adopted.
+-- In a run of at least two replicas each batch that was launched is in a Propose that was sent. So what holds of the empty batch, and of the batch of each Propose, holds of all that is voted on, known, chosen, reported and adopted.
 use Rattle.std.proofs.Common.{◌≡◌, ◌≢◌, ℕ, zero, suc, ◌+◌, ◌-◌, ◌≤◌, ◌<◌, ◌⊎◌, Bool, true, false, List, [], ◌∷◌, length, Option, Some, None, option_map, if◌then◌else◌, nat_lt, ◌==◌, refl, sym, ap, subst, ◌∙◌, inl, inr, ⊎_elim, arith, le_refl, le_of_lt, zero-add, suc-add}
 use Rattle.std.proofs.lemmas.Bool.Decides.{eqb_tells}
 use Rattle.std.specs.Option.{unwrap_or, option_or}

@@ -1,4 +1,4 @@
--- Where the waiting batches, the item and what would be adopted are as asked, a turn sends and keeps only such batches.
+-- What holds of the waiting batches, of the item's batch and of what would be adopted, holds of each batch that a turn proposes and of each that waits after it.
 use Rattle.std.proofs.Common.{◌≡◌, ℕ, zero, suc, Bool, true, false, ◌&&◌, List, [], ◌∷◌, ◌++◌, drop, length, nat_lt, if◌then◌else◌, Option, Some, None, inr, ⊎_elim, refl, sym, ap, subst, ◌∙◌}
 use Rattle.jp_types.specs.declared.message.Message.{Message}
 use Rattle.jp_types.specs.declared.message.Propose.{Propose}

@@ -1,9 +1,9 @@
--- Which requests the one list of a schedule's run may have, and with them the stores.
-use Rattle.std.specs.Prelude.{◌≡◌, ℕ, List, ◌∷◌, ◌++◌, Some}
+-- For which requests a schedule asks, and that its run has no others: in the one list, in what a replica knows, and in what led to a store.
+use Rattle.std.specs.Prelude.{◌≡◌, ℕ, ◌⊎◌, List, ◌∷◌, ◌++◌, take, Some}
 use Rattle.jp_types.specs.declared.command.Request.{Request}
 use Rattle.jp_types.specs.Instances.{Batch}
+use Rattle.kv_service.specs.Service.{State}
 use Rattle.paxos_world.specs.Replica.{Running}
-use Rattle.paxos_world.specs.Served.{Stands}
 use Rattle.paxos_world.specs.Setup.{In}
 use Rattle.schedules.specs.declared.line.Line.{Line}
 use Rattle.schedules.specs.declared.line.Word.TheVariants.{Done}
@@ -32,12 +32,15 @@ abbrev pub KnownIsAsked : Schedule → Type 0
 KnownIsAsked s =
     (lines more : List Line) → s.lines ≡ lines ++ more → (r i : ℕ) (a : Running) (batch : Batch) → RunsAt (after_lines s lines) r a → a.stage.life.known i ≡ Some batch → AreAsked s lines batch
 
--- batches of requests that these lines ask for, of which some front leads to the service of what runs
-pub record IsServed (s : Schedule) (lines : List Line) (a : Running) : Type 0 where
-  pub batches : List Batch
-  pub asked : (batch : Batch) → In batch batches → AreAsked s lines batch
-  pub stands : Stands batches a.stage.life.service
+-- of the one list of the whole run, the batches that led to this state have only requests that these lines ask for
+abbrev pub IsLedByAsked : Schedule → List Line → State → Type 0
+IsLedByAsked s lines x = (batch : Batch) → In batch (take x.executed (list_of_run s)) → AreAsked s lines batch
 
--- after some lines the store of each replica that is up is the sequential one after batches of requests that these lines ask for
+-- so it is for the store of each replica that is up after some lines
 abbrev pub StoresAreAsked : Schedule → Type 0
-StoresAreAsked s = (lines more : List Line) → s.lines ≡ lines ++ more → (r : ℕ) (a : Running) → RunsAt (after_lines s lines) r a → IsServed s lines a
+StoresAreAsked s = (lines more : List Line) → s.lines ≡ lines ++ more → (r : ℕ) (a : Running) → RunsAt (after_lines s lines) r a → IsLedByAsked s lines a.stage.life.service
+
+-- and for each state that its service had in its life, or that the life installed
+abbrev pub StatesAreAsked : Schedule → Type 0
+StatesAreAsked s =
+    (lines more : List Line) → s.lines ≡ lines ++ more → (r : ℕ) (a : Running) → RunsAt (after_lines s lines) r a → (x : State) → In x a.stage.life.states ⊎ In x a.stage.life.installed → IsLedByAsked s lines x

@@ -1,4 +1,4 @@
-//! The one list of every schedule's run has only requests that the schedule asks for.
+//! In the run of every schedule there are only requests for which the schedule asks.
 #![tactic(auto)]
 
 pub mod laws;
