@@ -15,13 +15,14 @@ use Rattle.schedules.specs.declared.schedule.Schedule.{Schedule}
 use Rattle.schedules.specs.Cluster.{Place, Cluster, Happened, fresh_place, fresh_cluster}
 use Rattle.schedules.specs.Run.{refused, start_by, first_starts, first_event, event, cluster_after}
 use Rattle.turn_laws.specs.Limits.{StatesRead}
+use Rattle.turn_laws.proofs.Joining.{get-in}
 use Rattle.cluster_laws.specs.Laws.{IsSchedule, setup_of_run, steps_of_run, list_of_run, end_of_run, steps_over, steps_after, after_lines}
 use Rattle.cluster_laws.proofs.Beside.{setup_at, Matches}
 use Rattle.cluster_laws.proofs.Chosen.{list_chosen, one_is_chosen}
 use Rattle.cluster_laws.proofs.Lines.{happens-start, happens-event}
 use Rattle.cluster_laws.proofs.Schedules.{end-append, Reached, reached-fresh, reached-more, LinesTrue, joined-run}
 use Rattle.cluster_laws.proofs.Whole.{runs-life, one_list, parted, states_listed}
-use Rattle.request_laws.specs.Laws.{IsAsked, AreAsked, ListIsAsked, KnownIsAsked, StoresAreAsked, StatesAreAsked, IsLedByAsked}
+use Rattle.request_laws.specs.Laws.{IsAsked, AreAsked, ListIsAsked, KnownIsAsked, StoresAreAsked, StatesAreAsked, ExecutedAreAsked}
 use Rattle.request_laws.proofs.Origin.{SentMeet, known-in, chosen-in}
 use Rattle.request_laws.proofs.Lanes.{ClusterMeets, Present, LineMeets, after-start, after-event}
 
@@ -93,11 +94,6 @@ asks-lines P head reads two few (line ∷ lines) are moves cl meet h =
     subst (λ (ms : List Move). Asks P head ms (cluster_after e.cluster lines)) (append_assoc moves e.moves (steps_over e.cluster lines))
     (asks-lines P head reads two few lines (λ l n. are l (inr n)) (moves ++ e.moves) e.cluster meet.1 more)
 
-In-front : {X : Type 0} (x : X) (xs ys : List X) → In x xs → In x (xs ++ ys)
-In-front x (y ∷ xs) ys (inl e) = inl e
-In-front x (y ∷ xs) ys (inr n) = inr (In-front x xs ys n)
-In-front x [] ys n = absurd n
-
 cluster-append : (cl : Cluster) (xs ys : List Line) → cluster_after cl (xs ++ ys) ≡ cluster_after (cluster_after cl xs) ys
 cluster-append cl [] ys = refl
 cluster-append cl (x ∷ xs) ys = cluster-append (event cl x).cluster xs ys
@@ -125,11 +121,18 @@ own-lines s lines before (line ∷ rest) e =
       subst (λ (cl : Cluster). LinesMeet (λ request. IsAsked s lines request) cl rest) (cluster-append (first_event s.head).cluster before (line ∷ [])) more,
     )
 
+-- a schedule that ends behind these lines
+abbrev cut_at : Schedule → List Line → Schedule
+cut_at s lines = record s { lines = lines }
+
+cut-schedule : (s : Schedule) (lines more : List Line) → s.lines ≡ lines ++ more → IsSchedule s → IsSchedule (cut_at s lines)
+cut-schedule s lines more e is =
+    record { some = is.some; few = is.few; lines = λ line n. is.lines line (subst (λ (xs : List Line). In line xs) (sym e) (In-left line lines more n)) }
+
 -- after any of its lines, all requests are those for which these lines ask
 asks-by : (s : Schedule) → StatesRead → IsSchedule s → (lines more : List Line) → s.lines ≡ lines ++ more → Asks (λ request. IsAsked s lines request) s.head (steps_after s lines) (after_lines s lines)
 asks-by s reads is lines more e =
-    asks-lines (λ request. IsAsked s lines request) s.head reads is.some is.few lines
-    (λ line n. is.lines line (subst (λ (xs : List Line). In line xs) (sym e) (In-front line lines more n)))
+    asks-lines (λ request. IsAsked s lines request) s.head reads is.some is.few lines (cut-schedule s lines more e is).lines
     (first_event s.head).moves (first_event s.head).cluster (own-lines s lines [] lines refl) (asks-first (λ request. IsAsked s lines request) s.head reads is.some)
 
 -- ---- The laws
@@ -166,14 +169,6 @@ list_is_asked s reads is batch n =
 
 -- ---- The stores
 
--- a schedule that ends behind these lines
-abbrev cut_at : Schedule → List Line → Schedule
-cut_at s lines = record s { lines = lines }
-
-cut-schedule : (s : Schedule) (lines more : List Line) → s.lines ≡ lines ++ more → IsSchedule s → IsSchedule (cut_at s lines)
-cut-schedule s lines more e is =
-    record { some = is.some; few = is.few; lines = λ line n. is.lines line (subst (λ (xs : List Line). In line xs) (sym e) (In-front line lines more n)) }
-
 -- what it asks for, these lines ask for
 cut-asked : (s : Schedule) (lines : List Line) (request : Request) → IsAsked (cut_at s lines) lines request → IsAsked s lines request
 cut-asked s lines request h = record { replica = h.replica; before = h.before; behind = h.behind; split = h.split; done = h.done }
@@ -200,11 +195,6 @@ place-has : (xs : List Batch) (j : ℕ) → j < length xs → (x : Batch) × (sl
 place-has [] j lt = absurd (omega arith)
 place-has (y ∷ ys) zero lt = (y, refl)
 place-has (y ∷ ys) (suc j) lt = place-has ys j (omega arith)
-
-get-in : (xs : List Batch) (j : ℕ) (x : Batch) → slice_get xs j ≡ Some x → In x xs
-get-in [] j x e = absurd cc
-get-in (y ∷ ys) zero x e = let f : y ≡ x = cc in inl (sym f)
-get-in (y ∷ ys) (suc j) x e = inr (get-in ys j x e)
 
 -- the batch at a place of a list is chosen there
 place-chosen : (n : ℕ) (w : World) (i j m : ℕ) (xs : List Batch) (x : Batch) → AreChosenIn n w i xs → slice_get xs j ≡ Some x → i + j ≡ m → (view : ℕ) × IsChosenIn n w view m x
@@ -234,9 +224,9 @@ front-listed s reads is lines more e j batch lt at =
     let same : batch ≡ x.0 = one_is_chosen s reads is j b.0 a.0 batch x.0 b.1 later in
     subst (λ (y : Batch). In y (list_of_run cut)) (sym same) (get-in (list_of_run cut) j x.0 x.1)
 
--- what led to a state that stands on the shorter list
-led-by-asked : (s : Schedule) → StatesRead → (is : IsSchedule s) → (lines more : List Line) → s.lines ≡ lines ++ more → (x : State) → Stands (list_of_run (cut_at s lines)) x → IsLedByAsked s lines x
-led-by-asked s reads is lines more e x stands batch n request m =
+-- what a state executed that stands on the shorter list
+executed-asked : (s : Schedule) → StatesRead → (is : IsSchedule s) → (lines more : List Line) → s.lines ≡ lines ++ more → (x : State) → Stands (list_of_run (cut_at s lines)) x → ExecutedAreAsked s lines x
+executed-asked s reads is lines more e x stands batch n request m =
     let p = in-take x.executed (list_of_run s) batch n in
     let lt = p.1 in
     let le = stands.within in
@@ -245,8 +235,8 @@ led-by-asked s reads is lines more e x stands batch n request m =
 
 pub stores_are_asked : (s : Schedule) → StatesRead → IsSchedule s → StoresAreAsked s
 stores_are_asked s reads is lines more e r a up =
-    led-by-asked s reads is lines more e a.stage.life.service (one_list (cut_at s lines) reads (cut-schedule s lines more e is) lines [] (sym (append-nil lines)) r a up)
+    executed-asked s reads is lines more e a.stage.life.service (one_list (cut_at s lines) reads (cut-schedule s lines more e is) lines [] (sym (append-nil lines)) r a up)
 
 pub states_are_asked : (s : Schedule) → StatesRead → IsSchedule s → StatesAreAsked s
 states_are_asked s reads is lines more e r a up x n =
-    led-by-asked s reads is lines more e x (states_listed (cut_at s lines) reads (cut-schedule s lines more e is) lines [] (sym (append-nil lines)) r a up x n)
+    executed-asked s reads is lines more e x (states_listed (cut_at s lines) reads (cut-schedule s lines more e is) lines [] (sym (append-nil lines)) r a up x n)

@@ -32,15 +32,15 @@ abbrev pub KnownIsAsked : Schedule → Type 0
 KnownIsAsked s =
     (lines more : List Line) → s.lines ≡ lines ++ more → (r i : ℕ) (a : Running) (batch : Batch) → RunsAt (after_lines s lines) r a → a.stage.life.known i ≡ Some batch → AreAsked s lines batch
 
--- of the one list of the whole run, the batches that led to this state have only requests that these lines ask for
-abbrev pub IsLedByAsked : Schedule → List Line → State → Type 0
-IsLedByAsked s lines x = (batch : Batch) → In batch (take x.executed (list_of_run s)) → AreAsked s lines batch
+-- of the one list of the whole run, the batches that this state has executed have only requests that these lines ask for
+abbrev pub ExecutedAreAsked : Schedule → List Line → State → Type 0
+ExecutedAreAsked s lines x = (batch : Batch) → In batch (take x.executed (list_of_run s)) → AreAsked s lines batch
 
 -- so it is for the store of each replica that is up after some lines
 abbrev pub StoresAreAsked : Schedule → Type 0
-StoresAreAsked s = (lines more : List Line) → s.lines ≡ lines ++ more → (r : ℕ) (a : Running) → RunsAt (after_lines s lines) r a → IsLedByAsked s lines a.stage.life.service
+StoresAreAsked s = (lines more : List Line) → s.lines ≡ lines ++ more → (r : ℕ) (a : Running) → RunsAt (after_lines s lines) r a → ExecutedAreAsked s lines a.stage.life.service
 
 -- and for each state that its service had in its life, or that the life installed
 abbrev pub StatesAreAsked : Schedule → Type 0
 StatesAreAsked s =
-    (lines more : List Line) → s.lines ≡ lines ++ more → (r : ℕ) (a : Running) → RunsAt (after_lines s lines) r a → (x : State) → In x a.stage.life.states ⊎ In x a.stage.life.installed → IsLedByAsked s lines x
+    (lines more : List Line) → s.lines ≡ lines ++ more → (r : ℕ) (a : Running) → RunsAt (after_lines s lines) r a → (x : State) → In x a.stage.life.states ⊎ In x a.stage.life.installed → ExecutedAreAsked s lines x
