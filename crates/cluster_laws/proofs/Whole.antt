@@ -265,14 +265,14 @@ executes_once s reads is before behind before' behind' q i l l' e e' runs runs' 
 -- ---- Replies
 
 -- what was executed, where an event shows it
-record Executed (cl : Cluster) (i : ℕ) (shown : List Outcome) (h : Happened) : Type 0 where
-  q : ℕ
-  a : Running
-  up : RunsAt cl q a
-  batch : Batch
-  known : a.stage.life.known i ≡ Some batch
-  shown_is : shown ≡ outcomes a.stage.life.service batch
-  moves : h.moves ≡ Move.Act q (Execute i) ∷ []
+pub record Executed (cl : Cluster) (i : ℕ) (shown : List Outcome) (h : Happened) : Type 0 where
+  pub q : ℕ
+  pub a : Running
+  pub up : RunsAt cl q a
+  pub batch : Batch
+  pub known : a.stage.life.known i ≡ Some batch
+  pub shown_is : shown ≡ outcomes a.stage.life.service batch
+  pub moves : h.moves ≡ Move.Act q (Execute i) ∷ []
 
 In-right-part : {X : Type 0} (x : X) (xs ys : List X) → In x ys → In x (xs ++ ys)
 In-right-part x [] ys n = n
@@ -290,7 +290,7 @@ steps-shown r i shown number (Save k ∷ acts) n = steps-shown r i shown number 
 
 module _ (cl : Cluster) (w : World) (r i : ℕ) (shown : List Outcome) (h : Matches cl w) (reads : StatesRead) (two : 2 ≤ cl.head.n) where
   -- what shows an execution executed it
-  abbrev Tells : Happened → Type 0
+  abbrev pub Tells : Happened → Type 0
   Tells x = In (Step.Execute r i shown) x.steps → Executed cl i shown x
 
   tells-refused : (word : Word) → Tells (refused word cl)
@@ -412,7 +412,7 @@ module _ (cl : Cluster) (w : World) (r i : ℕ) (shown : List Outcome) (h : Matc
   tells-delivers None q = tells-refused Unsent
   tells-delivers (Some m) q = tells-if (m.to == q) _ _ (tells-puts_item (Came m.from m.message) q) (tells-refused Unsent)
 
-  tells-event : (line : Line) → Tells (event cl line)
+  pub tells-event : (line : Line) → Tells (event cl line)
   unfolding event
   tells-event (Line.Cluster head) = tells-refused Done
   tells-event (Line.Request q request) = tells-at (puts_request (Asked request)) q (λ place a p u. tells-if (is_full a.requests) _ _ (tells-refused Full) (λ n. absurd n))

@@ -1,6 +1,6 @@
 -- The answer to a schedule is one to the input that spells it, and holds what the laws say of its run.
 use Rattle.std.proofs.Common.{◌≡◌, ℕ, ◌≤◌, true, List, Some, Ok, inl, inr, refl, sym, ap, subst, ◌∙◌}
-use Rattle.std.specs.Prelude.{Option, IfSome, Result, Err, IfOk, ◌⊎◌}
+use Rattle.std.specs.Prelude.{Option, None, IfSome, Result, Err, IfOk, ◌⊎◌}
 use Rattle.std.specs.Io.KnownBytes.{Appends}
 use Rattle.jp_types.specs.declared.status.Status.{Status}
 use Rattle.jp_types.specs.declared.status.Status.TheVariants as status
@@ -12,7 +12,7 @@ use Rattle.schedules.specs.Schedule.{read_schedule}
 use Rattle.cluster.specs.Drawing.{IsDrawn, IsDrawnPast}
 use Rattle.schedules.specs.Fitting.{IsFit}
 use Rattle.schedules.specs.Generator.{generate, summary}
-use Rattle.schedules.specs.Run.{sends_too_much}
+use Rattle.schedules.specs.Run.{run_of, sends_too_much}
 use Rattle.cluster.specs.Runs.{Runs, RunsPast}
 use Rattle.schedules.specs.Text.{show}
 use Rattle.cluster_laws.specs.Laws.{IsSchedule}
@@ -20,6 +20,7 @@ use Rattle.cluster_laws.proofs.Chosen as chosen
 use Rattle.cluster_laws.proofs.ReadFit.{within, schedules_within}
 use Rattle.cluster_laws.proofs.Whole as whole
 use Rattle.request_laws.proofs.Asking as asking
+use Rattle.observed_laws.proofs.Whole.{observed}
 use Rattle.run_laws.specs.Laws as run_laws
 use Rattle.run_laws.proofs.Whole.{runs_alike, runs_past_alike, drawn_alike, drawn_past_alike, generated_is_runnable}
 use Rattle.step_laws.proofs.Counting.{counts_quiet_exactly, handed_exactly, waits_exactly}
@@ -32,7 +33,7 @@ use Rattle.step_laws.proofs.Sending.{repeats_exactly, sends_exactly}
 use Rattle.step_laws.proofs.Settling.{launches_exactly, prepared_exactly, rejoins_exactly}
 use Rattle.step_laws.proofs.Voting.{votes_exactly}
 use Rattle.jpaxos.specs.declared.answer.Answer.{Answer}
-use Rattle.jpaxos.specs.Answers.{Fits, IsShown, IsRunnable, IsDrawnAnswer, IsRunAnswer, IsAnswer, IsSummary, IsClusterStatus, IsTold, Answers}
+use Rattle.jpaxos.specs.Answers.{Fits, IsShown, IsRunText, IsObservedText, IsRunnable, IsDrawnAnswer, IsRunAnswer, IsAnswer, IsSummary, IsClusterStatus, IsTold, Answers, AnswersObserved}
 use Rattle.jpaxos.specs.Headline.{Headline, TurnsAreExact}
 use Rattle.jpaxos.specs.Words.{refusal}
 
@@ -130,6 +131,26 @@ pub drawn_past : {E : Type 0} (seed n steps : ℕ) (r : Result Answer E) → 3 �
 drawn_past seed n steps (Ok answer) more few most sends is told =
     subst (λ (s : Status). IsDrawnAnswer seed n steps answer.text s) (sym is) (refl, record { sends = drawn_past_alike seed n steps more few most sends; told = told })
 drawn_past seed n steps (Err e) more few most sends is told = is
+
+-- ---- What is observed
+
+-- an answer at Done is the text of a run that has what is observed
+observed_text : (input text : List ℕ) → IsRunText input text → IsObservedText input text
+observed_text input text h =
+    record {
+      schedule = h.schedule;
+      reads = h.reads;
+      run = run_of h.schedule;
+      shown = h.shown.shown;
+      observed = observed h.schedule states-read (schedules_within input h.schedule h.reads);
+    }
+
+pub is_observed : (told : Status) (left held held_after : Option (List ℕ)) → (IsTold told → Answers left held held_after told) → told ≡ status.Done → AnswersObserved left held held_after
+is_observed told left held held_after answers e = go left (subst (λ (x : Status). Answers left held held_after x) e (answers (subst IsTold (sym e) tt)))
+  where
+    go : (o : Option (List ℕ)) → Answers o held held_after status.Done → AnswersObserved o held held_after
+    go None a = tt
+    go (Some input) a = (a.0, (observed_text input a.0 a.1.0, a.1.1))
 
 -- ---- Completeness
 

@@ -3,11 +3,13 @@ use Rattle.std.specs.Prelude.{◌≡◌, ℕ, true, false, List, take, Option, I
 use Rattle.std.specs.Io.KnownBytes.{Appends}
 use Rattle.jp_types.specs.declared.status.Status.{Status}
 use Rattle.jp_types.specs.declared.status.Status.TheVariants.{Done, Usage, BadSchedule, TooLarge, ReadFault, WriteFault, NoMemory}
+use Rattle.schedules.specs.declared.event.Run.{Run}
 use Rattle.schedules.specs.declared.schedule.Schedule.{Schedule}
 use Rattle.schedules.specs.Schedule.{Bad, is_too_long, has_too_many_lines, read_schedule}
 use Rattle.schedules.specs.Run.{run_of, sends_too_much}
 use Rattle.schedules.specs.Text.{show}
 use Rattle.schedules.specs.Generator.{generate, summary}
+use Rattle.observed_laws.specs.Observed.{Observed}
 use Rattle.jpaxos.specs.Headline.{Headline}
 use Rattle.jpaxos.specs.Words.{refusal}
 
@@ -34,6 +36,14 @@ pub record IsRunText (input text : List ℕ) : Type 0 where
   pub reads : read_schedule input ≡ Ok schedule
   pub shown : IsShown schedule text
   pub laws : Headline schedule
+
+-- an input that spells a schedule, and the text of a run that shows what the run of this schedule must show. No state of the model occurs in it
+pub record IsObservedText (input text : List ℕ) : Type 0 where
+  pub schedule : Schedule
+  pub reads : read_schedule input ≡ Ok schedule
+  pub run : Run
+  pub shown : text ≡ show run
+  pub observed : Observed schedule run
 
 -- an input whose first bad line is this one, and the line that tells it
 pub record IsBadLine (input text : List ℕ) (status : Status) (bad : Bad) : Type 0 where
@@ -74,6 +84,10 @@ IsAnswer input text _ = ⊥
 -- the whole input was answered so: what was held is followed by the text of the answer
 abbrev pub Answers : Option (List ℕ) → Option (List ℕ) → Option (List ℕ) → Status → Type 0
 Answers left held held_after status = IfSome left (λ input. (text : List ℕ) × (IsAnswer input text status × Appends held held_after text))
+
+-- the whole input was answered by such a text: what was held is followed by it
+abbrev pub AnswersObserved : Option (List ℕ) → Option (List ℕ) → Option (List ℕ) → Type 0
+AnswersObserved left held held_after = IfSome left (λ input. (text : List ℕ) × (IsObservedText input text × Appends held held_after text))
 
 -- what was held is followed by a beginning of the text of an answer to the input
 abbrev pub BeginsAnswer : Option (List ℕ) → Option (List ℕ) → Option (List ℕ) → Type 0

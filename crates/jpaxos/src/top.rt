@@ -3,7 +3,7 @@
 ghost use Rattle.std.specs.Prelude.{◌≡◌, ◌≢◌, ◌≤◌, ◌+◌, ◌⊎◌, ℕ, List, Some, map, take, string_bytes};
 ghost use Rattle.std.specs.Io.KnownBytes.{Appends, IsAtEnd};
 ghost use Rattle.jp_types.specs.Faults.{Rose};
-ghost use Rattle.jpaxos.specs.Answers.{Answers, AnswersDrawn, BeginsAnswer, BeginsDrawn, IsClusterStatus, IsDrawnStatus, IsRunnable, IsTold, IsUsageStatus};
+ghost use Rattle.jpaxos.specs.Answers.{Answers, AnswersDrawn, AnswersObserved, BeginsAnswer, BeginsDrawn, IsClusterStatus, IsDrawnStatus, IsRunnable, IsTold, IsUsageStatus};
 ghost use Rattle.jpaxos.specs.Taking.{TakesAtMost};
 ghost use Rattle.jpaxos.specs.Words.{IsCluster, IsGen, IsNoCommand, usage_line};
 
@@ -58,12 +58,15 @@ fn answer_cluster<S: Source, K: Sink>(alloc: Global, source: &mut S, sink: &mut 
 
 /// Reads a schedule from the source, runs it, and writes the text of its run. What is told at Done is the text of the run of
 /// exactly the schedule that was read, of which the laws of `Headline` hold.
-#[tactic(auto, using(crate::proofs::Answering::is_complete))]
+#[tactic(auto, using(crate::proofs::Answering::is_complete, crate::proofs::Answering::is_observed))]
 pub fn run_cluster<S: Source, K: Sink>(alloc: Global, source: &mut S, sink: &mut K) -> Status
     ensures status { IsClusterStatus result }
 
     // A run, or a refusal of the input, is told whole, and nothing else is written.
     ensures told { IsTold result → Answers (S.left source.old) (K.held sink.old) (K.held sink.new) result }
+
+    // At Done the text is that of a run that has `Observed`, which speaks of no more than what the text shows.
+    ensures observed { result ≡ Status.Done → AnswersObserved (S.left source.old) (K.held sink.old) (K.held sink.new) }
 
     // The input was read to its end, but where it has too many bytes, and then to one past the limit.
     ensures end { IsTold result → result ≢ Status.TooLarge 1 → IsAtEnd (S.left source.new) }
