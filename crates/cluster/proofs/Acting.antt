@@ -1,7 +1,7 @@
 -- What acts show and send is what they do in the model.
 use Rattle.std.proofs.Common.{◌≡◌, ◌∙◌, ℕ, suc, ◌<◌, List, [], ◌∷◌, map, inl, inr, refl, sym, ap, subst}
 use Rattle.jp_types.specs.declared.message.Message.{Message}
-use Rattle.paxos_world.specs.Setup.{In}
+use Rattle.jp_types.specs.Lists.{In}
 use Rattle.paxos_world.specs.Life.{LifeId}
 use Rattle.paxos_world.specs.Stage as model
 use Rattle.paxos_world.specs.World as world

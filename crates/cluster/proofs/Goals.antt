@@ -1,6 +1,6 @@
 -- What is shown of each part of a run.
 use Rattle.std.specs.Prelude.{◌≡◌, ℕ, ◌<◌, List, ◌++◌, map, Some, slice_get, slice_set}
-use Rattle.paxos_world.specs.Setup.{In}
+use Rattle.jp_types.specs.Lists.{In}
 use Rattle.paxos_world.specs.Life.{LifeId}
 use Rattle.paxos_world.specs.Stage as model
 use Rattle.paxos_world.specs.World as world

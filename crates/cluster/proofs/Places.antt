@@ -1,7 +1,7 @@
 -- Where a replica changes and sends messages, the others stay.
 use Rattle.std.proofs.Common.{◌≡◌, ℕ, ◌++◌, map, slice_get, slice_set, Option, Some, None, refl, sym, ap, subst, ◌∙◌, inl, inr}
 use Rattle.std.proofs.lemmas.List.{map-append}
-use Rattle.paxos_world.specs.Setup.{In}
+use Rattle.jp_types.specs.Lists.{In}
 use Rattle.paxos_world.specs.World as world
 use Rattle.paxos_world.proofs.Basics.{In-append}
 use Rattle.paxos_world.specs.Replica.{Running}

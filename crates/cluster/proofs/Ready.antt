@@ -2,7 +2,7 @@
 use Rattle.std.proofs.Common.{◌≡◌, ℕ, ◌≤◌, List, [], ◌∷◌, Some, slice_get, refl, sym, subst, inl}
 use Rattle.paxos_world.specs.Replica.{Running}
 use Rattle.paxos_world.specs.Serving.{serves}
-use Rattle.paxos_world.specs.Setup.{In}
+use Rattle.jp_types.specs.Lists.{In}
 use Rattle.paxos_world.specs.Stage.{Decision, Turned}
 use Rattle.paxos_world.specs.Trace.{end_of}
 use Rattle.paxos_world.specs.Turn.{untouched}

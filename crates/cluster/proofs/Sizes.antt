@@ -7,7 +7,8 @@ use Rattle.jp_types.specs.declared.command.Reply.TheVariants.{Done, Value, NoKey
 use Rattle.kv_service.specs.Service.{State}
 use Rattle.kv_service.specs.Store.{Store}
 use Rattle.kv_service.specs.StateBytes.{sized_bytes, pair_bytes, reply_bytes, client_bytes, state_bytes}
-use Rattle.turn_laws.specs.Limits.{IsKey, IsValue, IsState}
+use Rattle.jp_types.specs.Limits.{IsKey, IsValue}
+use Rattle.turn_laws.specs.Limits.{IsState}
 use Rattle.turn_laws.proofs.StateFitting.{read-fits}
 use Rattle.turn_laws.proofs.StateLimits.{EntriesFit, IsReply, IsClient, IsLast, StateFits, few-clients}
 

@@ -1,6 +1,6 @@
 -- A run that goes on line by line is the model's.
 use Rattle.std.proofs.Common.{◌≡◌, ◌≤◌, List, [], ◌∷◌, ◌++◌, sym, subst, inl, inr, arith, append-nil}
-use Rattle.paxos_world.specs.Setup.{In}
+use Rattle.jp_types.specs.Lists.{In}
 use Rattle.paxos_world.proofs.Basics.{In-append}
 use Rattle.replica_node.proofs.Whole.{puts-follow, starts-follow, steps-follow}
 use Rattle.schedules.specs.Cluster.{Cluster}

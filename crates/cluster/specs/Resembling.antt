@@ -1,7 +1,7 @@
 -- When the machines of a run are the cluster of the model.
 use Rattle.std.specs.Prelude.{◌≡◌, ◌≢◌, ℕ, ◌<◌, length, map, Option, Some, None, slice_get}
 use Rattle.paxos_world.specs.Replica.{Running}
-use Rattle.paxos_world.specs.Setup.{In}
+use Rattle.jp_types.specs.Lists.{In}
 use Rattle.paxos_world.specs.World as world
 use Rattle.schedules.specs.Cluster.{Place, Cluster, Happened, config_of}
 use Rattle.schedules.specs.declared.line.Head.{Head}

@@ -1,7 +1,8 @@
 -- A cluster that matches a world.
 use Rattle.std.proofs.Common.{◌≡◌, ◌≢◌, ℕ, zero, suc, ◌≤◌, ◌<◌, ◌⊎◌, List, [], ◌∷◌, ◌++◌, length, slice_get, slice_set, Option, Some, None, refl, sym, ap, subst, ◌∙◌, inl, inr, ⊎_elim, arith}
 use Rattle.kv_service.specs.StateBytes.{state_bytes}
-use Rattle.paxos_world.specs.Setup.{Setup, In}
+use Rattle.jp_types.specs.Lists.{In}
+use Rattle.paxos_world.specs.Setup.{Setup}
 use Rattle.paxos_world.specs.Life.{LifeId, Life}
 use Rattle.jp_types.specs.Instances.{Batch}
 use Rattle.paxos_world.specs.World.{Replica, World, Sent, Ballot, Deed, Move, Crash, Allowed, id_of, who, after, opening, replica_after, act, ballots, sends, fresh}
@@ -20,7 +21,7 @@ use Rattle.paxos_world.proofs.Replies.{same}
 use Rattle.turn_laws.specs.Nodes as F
 use Rattle.turn_laws.proofs.Lawful.{sits-frame}
 use Rattle.turn_laws.proofs.Fitting.{Within, Good}
-use Rattle.turn_laws.specs.Limits.{IsRequest, IsBatch}
+use Rattle.jp_types.specs.Limits.{IsRequest, IsBatch}
 use Rattle.turn_laws.proofs.Sane.{Sane, SaneRun}
 use Rattle.turn_laws.proofs.Sitting.{Sits, Over}
 use Rattle.schedules.specs.declared.line.Head.{Head}

@@ -1,7 +1,8 @@
 -- What each line of a schedule does is a run of the world.
 use Rattle.std.proofs.Common.{◌≡◌, ℕ, suc, ◌-◌, ◌≤◌, Bool, true, false, ◌&&◌, ◌||◌, List, [], ◌∷◌, ◌++◌, length, slice_get, slice_set, if◌then◌else◌, ◌==◌, Option, Some, None, refl, sym, ap, subst, ◌∙◌, inl, inr, ⊎_elim, append-nil}
 use Rattle.jp_types.specs.declared.command.Request.{Request}
-use Rattle.paxos_world.specs.Setup.{Setup, In}
+use Rattle.jp_types.specs.Lists.{In}
+use Rattle.paxos_world.specs.Setup.{Setup}
 use Rattle.paxos_world.specs.World.{Replica, World, Sent, Move, Crash, Allowed, id_of, after, replica_after}
 use Rattle.paxos_world.specs.Trace.{end_of}
 use Rattle.paxos_world.specs.Stage.{Config, free_slots, Item, Came, Closed, Suspect, Decision, Turned}
@@ -14,7 +15,8 @@ use Rattle.turn_laws.specs.Nodes as F
 use Rattle.turn_laws.proofs.Fitting.{Within}
 use Rattle.turn_laws.proofs.Goods.{step_good}
 use Rattle.turn_laws.proofs.Going.{In-snoc}
-use Rattle.turn_laws.specs.Limits.{IsRequest, IsBatch, StatesRead}
+use Rattle.jp_types.specs.Limits.{IsRequest, IsBatch}
+use Rattle.turn_laws.specs.Limits.{StatesRead}
 use Rattle.turn_laws.proofs.Sane.{life_sane}
 use Rattle.turn_laws.proofs.Joining.{get-in}
 use Rattle.turn_laws.proofs.Sitting.{Placed, Over, over-turn, over-serves, over-retransmit}

@@ -1,7 +1,8 @@
 -- The run of a schedule is a run of the world.
 use Rattle.std.proofs.Common.{◌≡◌, ℕ, zero, suc, ◌≤◌, ◌<◌, List, [], ◌∷◌, ◌++◌, length, map, replicate, slice_get, Some, refl, sym, ap, subst, ◌∙◌, inl, inr, arith, append-nil, append_assoc}
 use Rattle.std.specs.List.{flat_map}
-use Rattle.paxos_world.specs.Setup.{Setup, In}
+use Rattle.jp_types.specs.Lists.{In}
+use Rattle.paxos_world.specs.Setup.{Setup}
 use Rattle.paxos_world.specs.World.{World, Move, after, opening}
 use Rattle.paxos_world.specs.Trace.{IsRun, end_of}
 use Rattle.turn_laws.proofs.Goods.{opening_good}

@@ -5,7 +5,7 @@ use Rattle.kv_service.specs.Service.{State, outcomes}
 use Rattle.kv_service.specs.StateBytes.{state_bytes}
 use Rattle.kv_service.specs.StateReading.{read_state, state_in}
 use Rattle.paxos_world.specs.declared.step.Step.{Step}
-use Rattle.paxos_world.specs.Setup.{In}
+use Rattle.jp_types.specs.Lists.{In}
 use Rattle.paxos_world.specs.Life.{Life}
 use Rattle.jp_types.specs.Instances.{Batch}
 use Rattle.paxos_world.specs.World.{World, Sent, Move, Rejoin, Execute, CanRejoin, opening}

@@ -6,7 +6,8 @@ use Rattle.kv_service.specs.declared.outcome.Outcome.{Outcome}
 use Rattle.kv_service.specs.Service.{State, start, serve, outcomes}
 use Rattle.kv_service.specs.StateBytes.{state_bytes}
 use Rattle.paxos_world.specs.declared.step.Step.{Step}
-use Rattle.paxos_world.specs.Setup.{Setup, In}
+use Rattle.jp_types.specs.Lists.{In}
+use Rattle.paxos_world.specs.Setup.{Setup}
 use Rattle.paxos_world.specs.Life.{Life}
 use Rattle.jp_types.specs.Instances.{Batch}
 use Rattle.paxos_world.specs.World.{Replica, World, Sent, Move, Deed, Act, Rejoin, Execute, CanRejoin, opening}
@@ -20,7 +21,7 @@ use Rattle.paxos_world.specs.Replica.{Running}
 use Rattle.schedules.specs.Cluster.{Place, Cluster, Happened, kind_of}
 use Rattle.schedules.specs.Generator.{is_send}
 use Rattle.schedules.specs.Run.{first_event, event, event_of, cluster_after, last_of, moves_of_run, run_of}
-use Rattle.turn_laws.specs.Limits.{IsRequest}
+use Rattle.jp_types.specs.Limits.{IsRequest}
 
 -- the request of a line, if it has one, is within the limits
 abbrev pub IsLine : Line → Type 0

@@ -4,7 +4,8 @@ use Rattle.std.proofs.lemmas.Bool.Decides.{nat_tests}
 use Rattle.jp_types.specs.declared.message.Message.{Message}
 use Rattle.jp_types.specs.declared.message.PrepareOk.{PrepareOk}
 use Rattle.jp_types.specs.Vectors.{entry, table, merged}
-use Rattle.paxos_world.specs.Setup.{Setup, In}
+use Rattle.jp_types.specs.Lists.{In}
+use Rattle.paxos_world.specs.Setup.{Setup}
 use Rattle.paxos_world.specs.Life.{LifeId, Life, Taken, Leading, Preparing, preparing_in}
 use Rattle.paxos_world.specs.Counting.{Held, is_view, own_ok, entry_of, entry_in, ok_of, better_ok, held_ok}
 use Rattle.paxos_world.specs.World.{Take, Open, life_after}

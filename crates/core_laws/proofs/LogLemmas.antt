@@ -6,7 +6,8 @@ use Rattle.std.specs.FinMap as map
 use Rattle.std.proofs.lemmas.Bool.Decides.{nat_tests, eqb_tells}
 use Rattle.jp_types.specs.declared.message.Entry.{Entry}
 use Rattle.jp_types.specs.Instances.{Batch, span, first_unknown_from, reply_limit, known_from}
-use Rattle.paxos_world.specs.Setup.{with_at, In}
+use Rattle.jp_types.specs.Lists.{In}
+use Rattle.paxos_world.specs.Setup.{with_at}
 use Rattle.paxos_world.specs.Stage.{Note, Stage}
 use Rattle.paxos_world.specs.Logs as logs
 use Rattle.paxos_world.specs.Logs.{notes_on, tally, full_batch}

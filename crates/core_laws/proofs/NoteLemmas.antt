@@ -4,7 +4,7 @@ use Rattle.std.proofs.lemmas.Bool.Decides.{nat_tests}
 use Rattle.jp_types.specs.ReplicaSets.{is_member, no_members, with_member}
 use Rattle.jp_types.specs.Instances.{Batch}
 use Rattle.jp_types.specs.Views.{count_below, majority}
-use Rattle.paxos_world.specs.Setup.{In}
+use Rattle.jp_types.specs.Lists.{In}
 use Rattle.paxos_world.specs.Stage.{Note}
 use Rattle.paxos_world.specs.Logs.{highest_view, has_accepted, batch_in, full_batch}
 use Rattle.replica_log.specs.declared.tally.Tally.{Tally}

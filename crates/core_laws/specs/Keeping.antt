@@ -1,7 +1,7 @@
 -- When what a core keeps is what a stage of the model has.
 use Rattle.std.specs.Prelude.{◌≡◌, ℕ, ◌≤◌, ◌<◌, List, [], ◌∷◌, Option, Some, None}
 use Rattle.std.specs.FinMap as map
-use Rattle.paxos_world.specs.Setup.{In}
+use Rattle.jp_types.specs.Lists.{In}
 use Rattle.paxos_world.specs.Stage.{Note, Stage}
 use Rattle.paxos_world.specs.Logs.{notes_on}
 use Rattle.replica_log.specs.declared.tally.Tally.{Tally}

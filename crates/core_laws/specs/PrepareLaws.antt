@@ -4,7 +4,8 @@ use Rattle.jp_types.specs.declared.message.Message.{Message}
 use Rattle.jp_types.specs.declared.message.PrepareOk.{PrepareOk}
 use Rattle.jp_types.specs.Instances.{Batch}
 use Rattle.jp_types.specs.Reports.{decided_below}
-use Rattle.paxos_world.specs.Setup.{Setup, In}
+use Rattle.jp_types.specs.Lists.{In}
+use Rattle.paxos_world.specs.Setup.{Setup}
 use Rattle.paxos_world.specs.Life.{LifeId, Taken, Life, Leading, No, Preparing, Leads}
 use Rattle.paxos_world.specs.Counting.{is_view}
 use Rattle.paxos_world.specs.Adoption.{counted_report, adopted_by}

@@ -5,7 +5,7 @@ use Rattle.jp_types.specs.declared.message.Entry.{Entry}
 use Rattle.jp_types.specs.declared.message.PrepareOk.{PrepareOk}
 use Rattle.jp_types.specs.declared.message.Prepare.{Prepare}
 use Rattle.jp_types.specs.Views.{leader}
-use Rattle.paxos_world.specs.Setup.{In}
+use Rattle.jp_types.specs.Lists.{In}
 use Rattle.paxos_world.specs.Life.{Launched, Lead, Leading, No, Preparing, Leads, Life, IsKnown, next_of}
 use Rattle.jp_types.specs.Instances.{Batch}
 use Rattle.paxos_world.specs.Counting.{Held, counted_ok, is_promised}

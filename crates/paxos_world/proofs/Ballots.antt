@@ -4,7 +4,8 @@ use Rattle.jp_types.specs.declared.message.Message.{Message}
 use Rattle.jp_types.specs.declared.message.Propose.{Propose}
 use Rattle.jp_types.specs.declared.mode.Phase.TheVariants.{Working}
 use Rattle.jp_types.specs.Views.{leader}
-use Rattle.paxos_world.specs.Setup.{Setup, In}
+use Rattle.jp_types.specs.Lists.{In}
+use Rattle.paxos_world.specs.Setup.{Setup}
 use Rattle.paxos_world.specs.Life.{Launched, Lead, Leads, Life, Took}
 use Rattle.jp_types.specs.Instances.{Batch}
 use Rattle.paxos_world.specs.World.{Replica, Ballot, Sent, World, Deed, Launch, Vote, Learn, Say, Can, Allowed, life_after, Move, First, Return, Crash, Act, who, replica_after, ballots, ballots_of, HasProposal, of_running, id_of}

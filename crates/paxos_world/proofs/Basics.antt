@@ -2,7 +2,8 @@
 use Rattle.std.proofs.Common.{◌≡◌, ◌≢◌, ℕ, zero, suc, ◌+◌, ◌≤◌, ◌<◌, Bool, true, false, cond, ◌&&◌, ◌⊎◌, List, [], ◌∷◌, ◌++◌, refl, sym, subst, inl, inr, arith}
 use Rattle.std.proofs.lemmas.Bool.Decides.{eqb_tells}
 use Rattle.jp_types.specs.Views.{count_below}
-use Rattle.paxos_world.specs.Setup.{IsQuorum, with_at, In}
+use Rattle.jp_types.specs.Lists.{In}
+use Rattle.paxos_world.specs.Setup.{IsQuorum, with_at}
 
 -- a number equals another or not
 pub same_or_not : (q k : ℕ) → (q ≡ k) ⊎ (q ≢ k)

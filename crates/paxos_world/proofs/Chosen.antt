@@ -6,7 +6,8 @@ use Rattle.jp_types.specs.declared.message.PrepareOk.{PrepareOk}
 use Rattle.jp_types.specs.declared.message.Accept.{Accept}
 use Rattle.jp_types.specs.declared.message.CatchUpReply.{CatchUpReply}
 use Rattle.jp_types.specs.Views.{leader}
-use Rattle.paxos_world.specs.Setup.{Setup, In}
+use Rattle.jp_types.specs.Lists.{In}
+use Rattle.paxos_world.specs.Setup.{Setup}
 use Rattle.paxos_world.specs.Life.{LifeId, Life}
 use Rattle.jp_types.specs.Instances.{Batch}
 use Rattle.paxos_world.specs.Counting.{Held, counted_ok}

@@ -3,7 +3,8 @@ use Rattle.std.proofs.Common.{◌≡◌, ℕ, suc, ◌≤◌, ◌<◌, ◌⊎◌
 use Rattle.jp_types.specs.declared.mode.Phase.TheVariants.{Working}
 use Rattle.jp_types.specs.declared.mode.Mode.{Mode}
 use Rattle.jp_types.specs.declared.mode.Mode.TheVariants.{ViewSs, EpochSs}
-use Rattle.paxos_world.specs.Setup.{Setup, with_at, In}
+use Rattle.jp_types.specs.Lists.{In}
+use Rattle.paxos_world.specs.Setup.{Setup, with_at}
 use Rattle.paxos_world.specs.Life.{Taken, Launched, Lead, Leading, No, Preparing, Leads, Life, IsKnown, preparing_in}
 use Rattle.jp_types.specs.Instances.{Batch}
 use Rattle.paxos_world.specs.Counting.{entry_in}

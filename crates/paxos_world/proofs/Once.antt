@@ -12,7 +12,7 @@ use Rattle.kv_service.specs.declared.outcome.Kind.{Kind}
 use Rattle.kv_service.specs.declared.outcome.Kind.TheVariants.{First, Repeated, Passed}
 use Rattle.kv_service.specs.declared.outcome.Outcome.{Outcome}
 use Rattle.kv_service.specs.Service.{State, last_of, take_by, take_request, take_requests, kind_of, execute, start}
-use Rattle.paxos_world.specs.Setup.{In}
+use Rattle.jp_types.specs.Lists.{In}
 use Rattle.jp_types.specs.Instances.{Batch}
 use Rattle.paxos_world.specs.Served.{outcomes_from, FirstsDiffer, FirstOnce}
 use Rattle.paxos_world.proofs.Basics.{In-append}

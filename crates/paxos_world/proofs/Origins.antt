@@ -7,7 +7,8 @@ use Rattle.jp_types.specs.declared.message.RecoveryAnswer.{RecoveryAnswer}
 use Rattle.jp_types.specs.declared.message.Recovery.{Recovery}
 use Rattle.jp_types.specs.declared.message.Prepare.{Prepare}
 use Rattle.jp_types.specs.Views.{leader}
-use Rattle.paxos_world.specs.Setup.{Setup, In}
+use Rattle.jp_types.specs.Lists.{In}
+use Rattle.paxos_world.specs.Setup.{Setup}
 use Rattle.paxos_world.specs.Life.{LifeId, Life}
 use Rattle.jp_types.specs.Instances.{Batch}
 use Rattle.paxos_world.specs.Counting.{entry_in}

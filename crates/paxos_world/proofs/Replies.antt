@@ -7,7 +7,8 @@ use Rattle.jp_types.specs.declared.message.RecoveryAnswer.{RecoveryAnswer}
 use Rattle.jp_types.specs.declared.mode.Phase.{Phase}
 use Rattle.jp_types.specs.declared.mode.Mode.{Mode}
 use Rattle.jp_types.specs.declared.mode.Mode.TheVariants.{ViewSs, EpochSs}
-use Rattle.paxos_world.specs.Setup.{Setup, In}
+use Rattle.jp_types.specs.Lists.{In}
+use Rattle.paxos_world.specs.Setup.{Setup}
 use Rattle.paxos_world.specs.Life.{LifeId, Taken, Life}
 use Rattle.paxos_world.specs.Counting.{Held, entry_in, entry_answered, entry_taken, entry_of_ok, entry_of_answer, own_ok, own_answer, is_view, is_recovering, ok_of, answer_of, better_ok, better_answer, held_ok, held_answer, has_epoch_ok, has_epoch_answer, counted_ok, counted_answer}
 use Rattle.jp_types.specs.Vectors.{entry, table, is_less_answer}

@@ -2,7 +2,8 @@
 use Rattle.std.proofs.Common.{◌≡◌, ℕ, suc, Bool, true, false, List, [], Option, Some, if◌then◌else◌, ◌==◌, sym, ap, subst, ◌∙◌, inl, inr, ⊎_elim}
 use Rattle.jp_types.specs.declared.message.Message.{Message}
 use Rattle.jp_types.specs.Views.{leader}
-use Rattle.paxos_world.specs.Setup.{Setup, In}
+use Rattle.jp_types.specs.Lists.{In}
+use Rattle.paxos_world.specs.Setup.{Setup}
 use Rattle.paxos_world.specs.Life.{LifeId, Life}
 use Rattle.paxos_world.specs.World.{Sent, Deed, Take, Enter, Open, Promise, Prepared, Launch, Vote, Learn, Answer, Rejoin, Install, Execute, Restore, Say, Allowed, Move, First, Return, Crash, Act, sends, sends_of, of_running, to_others, id_of, MaySay}
 use Rattle.paxos_world.specs.Trace.{Trace, at, Does}

@@ -10,7 +10,8 @@ use Rattle.jp_types.specs.declared.mode.Phase.TheVariants.{Recovering, Working}
 use Rattle.jp_types.specs.declared.mode.Mode.{Mode}
 use Rattle.jp_types.specs.declared.mode.Mode.TheVariants.{ViewSs, EpochSs}
 use Rattle.jp_types.specs.Views.{leader}
-use Rattle.paxos_world.specs.Setup.{Setup, with_at, In}
+use Rattle.jp_types.specs.Lists.{In}
+use Rattle.paxos_world.specs.Setup.{Setup, with_at}
 use Rattle.paxos_world.specs.Life.{LifeId, Taken, Launched, Lead, Leading, No, Preparing, Leads, Life, IsKnown, IsFirstUnknown, preparing_in, new_life}
 use Rattle.jp_types.specs.Instances.{Batch}
 use Rattle.jp_types.specs.Marks.{first_mark, view_at_return}

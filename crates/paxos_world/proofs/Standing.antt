@@ -4,7 +4,7 @@ use Rattle.jp_types.specs.declared.message.Message.{Message}
 use Rattle.kv_service.specs.Service.{State, start, serve, execute}
 use Rattle.jp_types.specs.declared.mode.Phase.{Phase}
 use Rattle.jp_types.specs.declared.mode.Phase.TheVariants.{Recovering, Working}
-use Rattle.paxos_world.specs.Setup.{In}
+use Rattle.jp_types.specs.Lists.{In}
 use Rattle.paxos_world.specs.Life.{Life, Took, new_life}
 use Rattle.jp_types.specs.Instances.{Batch}
 use Rattle.paxos_world.specs.World.{IsPart, CanInstall, executed_with, Replica, Sent, World, Deed, Take, Enter, Open, Promise, Prepared, Launch, Vote, Learn, Answer, Rejoin, Install, Execute, Restore, Say, Can, Allowed, after, life_after, Move, First, Return, Crash, Act, who, replica_after, id_of}

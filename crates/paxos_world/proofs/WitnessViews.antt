@@ -3,7 +3,8 @@ use Rattle.std.proofs.Common.{◌≡◌, ℕ, zero, suc, ◌+◌, ◌≤◌, ◌
 use Rattle.jp_types.specs.declared.message.Message.{Message}
 use Rattle.jp_types.specs.declared.mode.Phase.TheVariants.{Recovering, Working}
 use Rattle.jp_types.specs.declared.mode.Mode.TheVariants.{ViewSs}
-use Rattle.paxos_world.specs.Setup.{Setup, In}
+use Rattle.jp_types.specs.Lists.{In}
+use Rattle.paxos_world.specs.Setup.{Setup}
 use Rattle.paxos_world.specs.Life.{Taken, Life, IsKnown, new_life}
 use Rattle.jp_types.specs.Instances.{Batch}
 use Rattle.paxos_world.specs.World.{Move, First, Return, Crash, Act, Take, Enter, Open, Promise, Prepared, Launch, Vote, Learn, Answer, Rejoin, Say, opening, By_votes, By_catch_up, HasAccepted, life_after}

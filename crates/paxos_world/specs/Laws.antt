@@ -6,7 +6,8 @@ use Rattle.jp_types.specs.declared.mode.Phase.TheVariants.{Working}
 use Rattle.jp_types.specs.declared.mode.Mode.TheVariants.{ViewSs, EpochSs}
 use Rattle.jp_types.specs.declared.message.Message.{Message}
 use Rattle.jp_types.specs.Views.{leader}
-use Rattle.paxos_world.specs.Setup.{Setup, In}
+use Rattle.jp_types.specs.Lists.{In}
+use Rattle.paxos_world.specs.Setup.{Setup}
 use Rattle.paxos_world.specs.Life.{Life}
 use Rattle.jp_types.specs.Instances.{Batch}
 use Rattle.paxos_world.specs.Counting.{Held, entry_in, counted_ok, counted_answer, ok_vectors, answer_vectors}

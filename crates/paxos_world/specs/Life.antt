@@ -4,7 +4,7 @@ use Rattle.jp_types.specs.declared.message.Message.{Message}
 use Rattle.jp_types.specs.declared.message.Entry.{Entry}
 use Rattle.jp_types.specs.declared.mode.Phase.{Phase}
 use Rattle.kv_service.specs.Service.{State, start}
-use Rattle.paxos_world.specs.Setup.{In}
+use Rattle.jp_types.specs.Lists.{In}
 use Rattle.jp_types.specs.Instances.{Batch}
 
 -- a life: the replica, and which of its starts began it, from 1

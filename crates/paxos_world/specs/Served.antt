@@ -3,7 +3,8 @@ use Rattle.std.specs.Prelude.{◌≡◌, ◌≢◌, ℕ, suc, ◌≤◌, List, [
 use Rattle.kv_service.specs.declared.outcome.Kind.{Kind}
 use Rattle.kv_service.specs.declared.outcome.Outcome.{Outcome}
 use Rattle.kv_service.specs.Service.{State, serve, start, execute, outcomes}
-use Rattle.paxos_world.specs.Setup.{Setup, In}
+use Rattle.jp_types.specs.Lists.{In}
+use Rattle.paxos_world.specs.Setup.{Setup}
 use Rattle.paxos_world.specs.Life.{Life}
 use Rattle.jp_types.specs.Instances.{Batch}
 use Rattle.jp_types.specs.declared.mode.Phase.TheVariants.{Recovering}

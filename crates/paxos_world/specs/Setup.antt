@@ -1,4 +1,4 @@
--- The constants of a run, majorities, and two words on functions and lists.
+-- The constants of a run, majorities, and a word on functions.
 use Rattle.std.specs.Prelude.{◌≡◌, ℕ, ◌≤◌, Bool, List, [], ◌∷◌, if◌then◌else◌, ◌==◌, ◌⊎◌}
 use Rattle.jp_types.specs.Views.{majority, count_below}
 use Rattle.jp_types.specs.declared.mode.Mode.{Mode}
@@ -17,8 +17,3 @@ IsQuorum n test = majority n ≤ count_below n test
 -- the function that is x at k and f elsewhere
 abbrev pub with_at : {X : Type 0} → (ℕ → X) → ℕ → X → ℕ → X
 with_at f k x q = if q == k then x else f q
-
--- x is an element of the list
-abbrev pub In : {X : Type 0} → X → List X → Type 0
-In x [] = ⊥
-In x (y ∷ ys) = (x ≡ y) ⊎ In x ys

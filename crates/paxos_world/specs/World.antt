@@ -10,7 +10,8 @@ use Rattle.jp_types.specs.declared.mode.Mode.{Mode}
 use Rattle.jp_types.specs.declared.mode.Mode.TheVariants.{ViewSs, EpochSs}
 use Rattle.kv_service.specs.Service.{State, execute}
 use Rattle.jp_types.specs.Views.{leader}
-use Rattle.paxos_world.specs.Setup.{Setup, IsQuorum, with_at, In}
+use Rattle.jp_types.specs.Lists.{In}
+use Rattle.paxos_world.specs.Setup.{Setup, IsQuorum, with_at}
 use Rattle.paxos_world.specs.Life.{LifeId, Lead, Leading, No, Preparing, Leads, Life, IsKnown, IsFirstUnknown, Took, preparing_in, next_of, new_life}
 use Rattle.jp_types.specs.Instances.{Batch}
 use Rattle.jp_types.specs.Marks.{first_mark, view_at_return}

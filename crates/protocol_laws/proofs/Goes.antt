@@ -10,7 +10,7 @@ use Rattle.jp_types.specs.declared.message.RecoveryAnswer.{RecoveryAnswer}
 use Rattle.jp_types.specs.declared.message.SnapshotPart.{SnapshotPart}
 use Rattle.jp_types.specs.Instances.{Batch}
 use Rattle.kv_service.specs.Parts.{part_size}
-use Rattle.paxos_world.specs.Setup.{In}
+use Rattle.jp_types.specs.Lists.{In}
 use Rattle.paxos_world.specs.Life.{LifeId, Taken, preparing_in}
 use Rattle.paxos_world.specs.Counting.{is_view, own_ok, own_answer}
 use Rattle.paxos_world.specs.World.{Deed, lead_after}

@@ -4,7 +4,7 @@ use Rattle.std.specs.Ordering.{nat_cmp, match_ordering}
 use Rattle.std.specs.BTreeMap.{insert_entry}
 use Rattle.jp_types.specs.declared.message.SnapshotPart.{SnapshotPart}
 use Rattle.kv_service.specs.Parts.{Joiner, part_size, part_count, with_part, is_joined, joined_bytes}
-use Rattle.paxos_world.specs.Setup.{In}
+use Rattle.jp_types.specs.Lists.{In}
 use Rattle.snapshots.specs.Joining.{empty_joiner}
 use Rattle.std.proofs.lemmas.Bool.Decides.{nat_tests}
 use Rattle.paxos_world.specs.Stage.{Stage}

@@ -4,7 +4,7 @@ use Rattle.std.proofs.lemmas.Bool.Decides.{nat_tests}
 use Rattle.jp_types.specs.declared.message.Message.{Message}
 use Rattle.jp_types.specs.Views.{leader, number_limit, number_if, within_limit, next_led}
 use Rattle.paxos_world.specs.declared.step.Step.{Step}
-use Rattle.paxos_world.specs.Setup.{In}
+use Rattle.jp_types.specs.Lists.{In}
 use Rattle.paxos_world.specs.Life.{Taken, No, Preparing}
 use Rattle.paxos_world.specs.Counting.{is_view}
 use Rattle.paxos_world.specs.World.{Deed}

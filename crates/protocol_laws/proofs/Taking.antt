@@ -9,7 +9,7 @@ use Rattle.paxos_world.specs.Counting.{is_recovering, own_ok, own_answer, entry_
 use Rattle.paxos_world.specs.Life.{LifeId, Leading, No, Preparing, Leads, Taken, preparing_in}
 use Rattle.paxos_world.specs.Learning.{horizon_to}
 use Rattle.paxos_world.specs.Messages.{vector_of}
-use Rattle.paxos_world.specs.Setup.{In}
+use Rattle.jp_types.specs.Lists.{In}
 use Rattle.paxos_world.specs.Stage.{Stage, setup_of}
 use Rattle.paxos_world.specs.Stage as model
 use Rattle.paxos_world.specs.World.{Deed}

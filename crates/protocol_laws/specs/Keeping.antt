@@ -4,7 +4,7 @@ use Rattle.std.specs.Option.{option_map}
 use Rattle.jp_types.specs.declared.message.PrepareOk.{PrepareOk}
 use Rattle.jp_types.specs.declared.message.RecoveryAnswer.{RecoveryAnswer}
 use Rattle.kv_service.specs.Parts.{Joiner, part_size}
-use Rattle.paxos_world.specs.Setup.{In}
+use Rattle.jp_types.specs.Lists.{In}
 use Rattle.paxos_world.specs.Life.{Taken, No, Preparing}
 use Rattle.paxos_world.specs.Counting.{is_recovering, held_ok, held_answer}
 use Rattle.paxos_world.specs.CatchingUp.{place_of}

@@ -1,6 +1,6 @@
 -- Lists of what is armed, no two of which are in one slot: what is left of them, and what is added to them.
 use Rattle.std.proofs.Common.{◌≡◌, ◌≢◌, ◌⊎◌, List, [], ◌∷◌, ◌++◌, inl, inr, refl, sym, subst}
-use Rattle.paxos_world.specs.Setup.{In}
+use Rattle.jp_types.specs.Lists.{In}
 use Rattle.retransmitter.specs.Armed.{Armed}
 use Rattle.protocol_stage.specs.Arming.{AreApart}
 

@@ -2,7 +2,7 @@
 use Rattle.std.proofs.Common.{◌≡◌, ◌≢◌, ◌∙◌, ℕ, suc, ◌<◌, true, false, List, [], ◌∷◌, length, map, Option, Some, None, IfSome, is_some, inl, inr, refl, sym, ap, subst, arith}
 use Rattle.std.specs.Option.{option_map}
 use Rattle.std.proofs.lemmas.List.{get_or-set_same, length-set}
-use Rattle.paxos_world.specs.Setup.{In}
+use Rattle.jp_types.specs.Lists.{In}
 use Rattle.paxos_world.specs.Retransmitting.{free_armed, free_each}
 use Rattle.retransmitter.specs.Armed.{Armed}
 use Rattle.retransmitter.specs.Slots.{armed_at, cancelled, generation_at, is_free, new_slot, slot_at, slots_in}

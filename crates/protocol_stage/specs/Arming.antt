@@ -1,7 +1,7 @@
 -- When the messages that are repeated for a life are those that a stage of the model has armed.
 use Rattle.std.specs.Prelude.{◌≡◌, ◌≢◌, ℕ, ◌<◌, true, List, [], ◌∷◌, ◌++◌, length, map, Option, Some, None, is_some}
 use Rattle.std.specs.Option.{option_map}
-use Rattle.paxos_world.specs.Setup.{In}
+use Rattle.jp_types.specs.Lists.{In}
 use Rattle.paxos_world.specs.Stage as model
 use Rattle.retransmitter.specs.Armed.{Armed}
 use Rattle.retransmitter.specs.Slots.{generation_at, least_free, live_at}

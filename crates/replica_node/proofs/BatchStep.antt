@@ -7,7 +7,7 @@ use Rattle.jp_types.specs.Instances.{Batch}
 use Rattle.paxos_world.specs.Batching as batching
 use Rattle.paxos_world.specs.Replica as replica
 use Rattle.paxos_world.specs.Replica.{Running, is_full}
-use Rattle.paxos_world.specs.Setup.{In}
+use Rattle.jp_types.specs.Lists.{In}
 use Rattle.paxos_world.specs.Stage.{Closed}
 use Rattle.paxos_world.specs.Stage as model
 use Rattle.paxos_world.proofs.Basics.{In-append}

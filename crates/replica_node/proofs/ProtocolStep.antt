@@ -4,7 +4,7 @@ use Rattle.std.proofs.lemmas.List.{length-map, map-append}
 use Rattle.kv_service.specs.Service.{State}
 use Rattle.paxos_world.specs.Replica as replica
 use Rattle.paxos_world.specs.Replica.{Running, lane_limit}
-use Rattle.paxos_world.specs.Setup.{In}
+use Rattle.jp_types.specs.Lists.{In}
 use Rattle.paxos_world.specs.Stage.{Config, Stage, Item, Came, Closed, Tick, Suspect, Snapped}
 use Rattle.paxos_world.specs.Stage as model
 use Rattle.paxos_world.specs.Turn.{untouched, turn}

@@ -4,7 +4,7 @@ use Rattle.std.proofs.lemmas.List.{map-append}
 use Rattle.batcher.specs.declared.fed.Fed.{Fed}
 use Rattle.paxos_world.specs.Batching as batching
 use Rattle.paxos_world.specs.Replica.{Running, is_full}
-use Rattle.paxos_world.specs.Setup.{In}
+use Rattle.jp_types.specs.Lists.{In}
 use Rattle.paxos_world.specs.Stage as model
 use Rattle.paxos_world.proofs.Basics.{In-append}
 use Rattle.protocol_core.specs.declared.item.Item.{Item}

@@ -10,7 +10,7 @@ use Rattle.kv_service.proofs.Requests.{executed-take_requests}
 use Rattle.paxos_world.specs.Replica as replica
 use Rattle.paxos_world.specs.Replica.{Running, is_full}
 use Rattle.paxos_world.specs.declared.step.Step.{Step}
-use Rattle.paxos_world.specs.Setup.{In}
+use Rattle.jp_types.specs.Lists.{In}
 use Rattle.paxos_world.specs.Serving as model_serving
 use Rattle.paxos_world.specs.Serving.{serves}
 use Rattle.paxos_world.specs.Stage.{Came, Closed, Tick, Suspect, Snapped}

@@ -3,7 +3,7 @@ use Rattle.std.specs.Prelude.{◌≡◌, ℕ, suc, ◌≤◌, false, map, Option
 use Rattle.batcher.specs.declared.fed.Fed.{Fed}
 use Rattle.paxos_world.specs.Batching as model_batching
 use Rattle.paxos_world.specs.Replica.{Running}
-use Rattle.paxos_world.specs.Setup.{In}
+use Rattle.jp_types.specs.Lists.{In}
 use Rattle.paxos_world.specs.Stage.{Item, Decision, Decided, Installed}
 use Rattle.protocol_laws.specs.Acting.{item_of, model_decision}
 use Rattle.protocol_laws.specs.Coming.{Comes}

@@ -5,7 +5,8 @@ use Rattle.jp_types.specs.Instances.{Batch}
 use Rattle.paxos_world.specs.Served.{AreChosenIn, Stands}
 use Rattle.paxos_world.proofs.Basics.{In-left}
 use Rattle.kv_service.specs.Service.{State}
-use Rattle.paxos_world.specs.Setup.{Setup, In}
+use Rattle.jp_types.specs.Lists.{In}
+use Rattle.paxos_world.specs.Setup.{Setup}
 use Rattle.paxos_world.specs.Trace.{IsChosenIn, IsRun, end_of}
 use Rattle.paxos_world.specs.World.{World, Ballot, Sent, Move, ballots, after, opening}
 use Rattle.schedules.specs.declared.line.Head.{Head}

@@ -14,7 +14,7 @@ use Rattle.paxos_world.specs.Replica.{Running, lane_limit, is_full, handed_by, s
 use Rattle.paxos_world.specs.Retransmitting.{claim, cursor_after}
 use Rattle.paxos_world.specs.Serving.{makes_snapshot, serves, snapshot_of}
 use Rattle.paxos_world.specs.Settling.{settles_rejoin}
-use Rattle.paxos_world.specs.Setup.{In}
+use Rattle.jp_types.specs.Lists.{In}
 use Rattle.paxos_world.specs.Stage.{Config, setup_of, free_slots, Outgoing, Stage, Item, Came, Closed, Suspect, Decision, Decided, Installed, Act, Turned}
 use Rattle.paxos_world.specs.Trace.{IsRun, end_of}
 use Rattle.paxos_world.specs.Turn.{untouched, on_item, turn, Opened, moves_of, retransmit}

@@ -13,7 +13,7 @@ use Rattle.paxos_world.specs.Learning.{accept_of, propose_of}
 use Rattle.paxos_world.specs.Life.{LifeId, Leading, No, Preparing, Leads}
 use Rattle.paxos_world.specs.Logs.{first_undecided, span_end}
 use Rattle.paxos_world.specs.Settling.{is_prepared, adoption_end}
-use Rattle.paxos_world.specs.Setup.{In}
+use Rattle.jp_types.specs.Lists.{In}
 use Rattle.paxos_world.specs.Stage.{Config, setup_of, Snapshot, Stage, Item, Came, Closed, Tick, Suspect, Snapped, Act, Show, Send, Hand, Save}
 use Rattle.paxos_world.specs.Turn.{alive_of}
 use Rattle.paxos_world.specs.World.{Deed, Sent}

@@ -7,7 +7,8 @@ use Rattle.jp_types.specs.declared.message.Entry.{Entry}
 use Rattle.jp_types.specs.declared.message.Propose.{Propose}
 use Rattle.jp_types.specs.Instances.{Batch}
 use Rattle.jp_types.specs.Reports.{decided_entry, voted_entry, decided_in, vote_in, higher, decided_below, highest_below}
-use Rattle.paxos_world.specs.Setup.{Setup, In}
+use Rattle.jp_types.specs.Lists.{In}
+use Rattle.paxos_world.specs.Setup.{Setup}
 use Rattle.paxos_world.specs.Life.{LifeId, Life}
 use Rattle.paxos_world.specs.Adoption.{IsTold, counted_report, adopted_by}
 use Rattle.paxos_world.specs.World.{World, Sent, Ballot, Promise, Launch, Act, Move, CanPromise, HasLaunched, id_of, of_running, to_others, sends, sends_of, opening}

@@ -8,7 +8,7 @@ use Rattle.paxos_world.specs.Leading.{works, is_leading, leads, leads_own, begin
 use Rattle.paxos_world.specs.Life.{LifeId, new_life}
 use Rattle.paxos_world.specs.Logs.{first_undecided}
 use Rattle.paxos_world.specs.Retransmitting.{arms_recovery}
-use Rattle.paxos_world.specs.Setup.{In}
+use Rattle.jp_types.specs.Lists.{In}
 use Rattle.paxos_world.specs.Settling.{settles_rejoin}
 use Rattle.paxos_world.specs.Stage.{Config, setup_of, Slot, Stage, Item, Came, Closed, Tick, Suspect, Snapped, Turned}
 use Rattle.paxos_world.specs.Turn.{waiting_limit, on_item, untouched, turn, Opened, begun, recovery_of, first_start, later_start, opening}

@@ -4,7 +4,7 @@ use Rattle.jp_types.specs.declared.command.Request.{Request}
 use Rattle.jp_types.specs.Instances.{Batch}
 use Rattle.kv_service.specs.Service.{State}
 use Rattle.paxos_world.specs.Replica.{Running}
-use Rattle.paxos_world.specs.Setup.{In}
+use Rattle.jp_types.specs.Lists.{In}
 use Rattle.schedules.specs.declared.line.Line.{Line}
 use Rattle.schedules.specs.declared.line.Word.TheVariants.{Done}
 use Rattle.schedules.specs.declared.schedule.Schedule.{Schedule}

@@ -5,7 +5,7 @@ use Rattle.std.proofs.Math.Nat.{mod-lt}
 use Rattle.std.proofs.lemmas.Bool.{cases_eq, cases_order}
 use Rattle.std.proofs.lemmas.List.{get_or-set_same, get_or-set_other, set_past, get_or-replicate, get_or_past}
 use Rattle.jp_types.specs.Views.{number_limit, majority}
-use Rattle.paxos_world.specs.Setup.{In}
+use Rattle.jp_types.specs.Lists.{In}
 use Rattle.paxos_world.specs.World.{Sent}
 use Rattle.schedules.specs.Generator.{drawn, next_word, Drawing, Drawn, after_draws, message_to, dropped, delivers_next, requests, redelivers, is_away, ends_or_begins, line_for, next_line, lines_drawn, mode_of_seed, generate}
 use Rattle.schedules.specs.Run.{event, first_event}
@@ -14,7 +14,7 @@ use Rattle.schedules.specs.Cluster.{running_of}
 use Rattle.schedules.specs.declared.line.Head.{Head}
 use Rattle.schedules.specs.declared.line.Line.{Line}
 use Rattle.cluster_laws.specs.Laws.{IsLine, IsSchedule}
-use Rattle.turn_laws.specs.Limits.{IsKey, IsValue, AreBytes}
+use Rattle.jp_types.specs.Limits.{IsKey, IsValue, AreBytes}
 use Rattle.run_laws.specs.Laws.{IsRunnable}
 
 -- ---- The counts of requests

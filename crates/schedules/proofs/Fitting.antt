@@ -20,7 +20,7 @@ use Rattle.schedules.specs.Reading.{ReadsLines}
 use Rattle.schedules.specs.declared.schedule.ScheduleFault.{ScheduleFault}
 use Rattle.std.specs.Prelude.{IfOk}
 use Rattle.schedules.specs.Fitting.{IsLineFit, IsFit}
-use Rattle.turn_laws.specs.Limits.{AreBytes, IsKey, IsValue, IsCommand}
+use Rattle.jp_types.specs.Limits.{AreBytes, IsKey, IsValue, IsCommand}
 use Rattle.std.specs.List.{All}
 use Rattle.std.proofs.lemmas.List.Elements.{All-cons, All-nil}
 

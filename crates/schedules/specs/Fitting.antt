@@ -1,7 +1,7 @@
 -- Lines and schedules whose numbers and bytes are within their ranges.
 use Rattle.std.specs.Prelude.{ℕ, ◌≤◌, ◌<◌}
 use Rattle.std.specs.List.{All}
-use Rattle.turn_laws.specs.Limits.{IsRequest}
+use Rattle.jp_types.specs.Limits.{IsRequest}
 use Rattle.schedules.specs.declared.line.Line.{Line}
 use Rattle.schedules.specs.declared.schedule.Schedule.{Schedule}
 use Rattle.schedules.specs.Heads.{IsHead}

@@ -10,7 +10,7 @@ use Rattle.jp_types.specs.Views.{next_led, number_if}
 use Rattle.paxos_world.specs.declared.step.Step.{Step}
 use Rattle.paxos_world.specs.Counting.{is_recovering}
 use Rattle.paxos_world.specs.Life.{LifeId, Taken}
-use Rattle.paxos_world.specs.Setup.{In}
+use Rattle.jp_types.specs.Lists.{In}
 use Rattle.paxos_world.specs.Shown.{shown_in}
 use Rattle.paxos_world.specs.World.{Deed}
 use Rattle.paxos_world.specs.Stage.{Config, Stage, Item, Came, Closed, Tick, Suspect, Snapped, Act, Show, Send, Hand, Save, Outgoing, Turned}

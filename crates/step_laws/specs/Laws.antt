@@ -6,7 +6,7 @@ use Rattle.paxos_world.specs.declared.step.Step.{Step}
 use Rattle.paxos_world.specs.Replica.{handed_by}
 use Rattle.paxos_world.specs.Retransmitting.{claim, cursor_after}
 use Rattle.paxos_world.specs.Settling.{rejoin_view}
-use Rattle.paxos_world.specs.Setup.{In}
+use Rattle.jp_types.specs.Lists.{In}
 use Rattle.paxos_world.specs.Shown.{shown_in}
 use Rattle.paxos_world.specs.Stage.{Stage, Item, Turned}
 use Rattle.paxos_world.specs.Turn.{turn, retransmit}

@@ -2,7 +2,7 @@
 use Rattle.std.proofs.Common.{◌≡◌, ◌≢◌, ℕ, Bool, true, false, List, [], ◌∷◌, Some, None, sym, subst, ◌∙◌, inl, inr, ⊎_elim, zero-add}
 use Rattle.jp_types.specs.declared.message.Message.{Message}
 use Rattle.jp_types.specs.declared.message.Prepare.{Prepare}
-use Rattle.paxos_world.specs.Setup.{In}
+use Rattle.jp_types.specs.Lists.{In}
 use Rattle.paxos_world.specs.Life.{Preparing}
 use Rattle.paxos_world.specs.World.{Sent}
 use Rattle.paxos_world.specs.Stage.{setup_of, Outgoing, Stage, Turned}

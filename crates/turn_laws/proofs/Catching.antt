@@ -9,7 +9,7 @@ use Rattle.kv_service.specs.Service.{State}
 use Rattle.kv_service.specs.StateBytes.{state_bytes}
 use Rattle.kv_service.specs.StateReading.{state_in}
 use Rattle.paxos_world.specs.declared.step.Step.{Step}
-use Rattle.paxos_world.specs.Setup.{In}
+use Rattle.jp_types.specs.Lists.{In}
 use Rattle.paxos_world.specs.Life.{Life, IsFirstUnknown, Took}
 use Rattle.jp_types.specs.Instances.{Batch}
 use Rattle.paxos_world.specs.World.{Install, By_catch_up, CanInstall, MaySay, stable_after}
@@ -26,7 +26,7 @@ use Rattle.jp_types.specs.Instances.{peer, known_then, known_from, reply_limit}
 use Rattle.kv_service.specs.Parts.{parts_from, part_count, is_alike, takes_part, with_part, is_joined, joined_bytes}
 use Rattle.paxos_world.proofs.Basics.{In-append}
 use Rattle.paxos_world.proofs.Replies.{same}
-use Rattle.turn_laws.specs.Limits.{AreBytes}
+use Rattle.jp_types.specs.Limits.{AreBytes}
 use Rattle.turn_laws.proofs.Sane.{took-sane}
 use Rattle.turn_laws.proofs.Reading.{reads-back}
 use Rattle.turn_laws.proofs.Fitting.{SnapshotTrue, JoinerTrue, Fits, Frame, Goes}

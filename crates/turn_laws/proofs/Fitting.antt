@@ -9,7 +9,8 @@ use Rattle.kv_service.specs.Service.{State}
 use Rattle.kv_service.specs.StateBytes.{state_bytes}
 use Rattle.kv_service.specs.StateReading.{state_in}
 use Rattle.paxos_world.specs.declared.step.Step.{Step}
-use Rattle.paxos_world.specs.Setup.{Setup, In}
+use Rattle.jp_types.specs.Lists.{In}
+use Rattle.paxos_world.specs.Setup.{Setup}
 use Rattle.paxos_world.specs.Life.{LifeId, Taken, Life, Preparing, IsKnown, Took}
 use Rattle.jp_types.specs.Instances.{Batch}
 use Rattle.paxos_world.specs.World.{World, Sent, Ballot, id_of, Enter, HasLaunched, HasProposal, HasAccepted, stable_after, to_others}
@@ -23,7 +24,8 @@ use Rattle.paxos_world.specs.Retransmitting.{live_at}
 use Rattle.paxos_world.specs.CatchingUp.{place_of}
 use Rattle.paxos_world.specs.Turn.{moves_of}
 use Rattle.paxos_world.proofs.Sound.{WorldSound}
-use Rattle.turn_laws.specs.Limits.{IsBatch, StatesRead}
+use Rattle.jp_types.specs.Limits.{IsBatch}
+use Rattle.turn_laws.specs.Limits.{StatesRead}
 use Rattle.turn_laws.specs.Nodes.{sent_by, handed_by, Onward}
 use Rattle.turn_laws.proofs.Sane.{Sane, SaneRun}
 

@@ -4,7 +4,8 @@ use Rattle.jp_types.specs.declared.message.Message.{Message}
 use Rattle.jp_types.specs.declared.mode.Phase.{Phase}
 use Rattle.jp_types.specs.declared.mode.Phase.TheVariants.{Recovering}
 use Rattle.jp_types.specs.declared.mode.Mode.TheVariants.{ViewSs}
-use Rattle.paxos_world.specs.Setup.{Setup, In, with_at}
+use Rattle.jp_types.specs.Lists.{In}
+use Rattle.paxos_world.specs.Setup.{Setup, with_at}
 use Rattle.paxos_world.specs.Life.{LifeId, Taken, Life, Took}
 use Rattle.jp_types.specs.Instances.{Batch}
 use Rattle.paxos_world.specs.World.{Replica, World, Sent, Ballot, Deed, Take, Enter, Open, Promise, Prepared, Launch, Vote, Learn, Answer, Rejoin, Install, Execute, Restore, Say, Move, Can, Allowed, MaySay, HasProposal, HasAccepted, id_of, life_after, replica_after, stable_after, ballots, ballots_of, of_running, sends, sends_of, to_others, after}

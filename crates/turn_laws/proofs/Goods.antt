@@ -5,7 +5,8 @@ use Rattle.jp_types.specs.declared.message.Message.{Message}
 use Rattle.jp_types.specs.declared.mode.Mode.{Mode}
 use Rattle.jp_types.specs.declared.mode.Mode.TheVariants.{ViewSs, EpochSs}
 use Rattle.jp_types.specs.Views.{leader, number_limit}
-use Rattle.paxos_world.specs.Setup.{Setup, In}
+use Rattle.jp_types.specs.Lists.{In}
+use Rattle.paxos_world.specs.Setup.{Setup}
 use Rattle.paxos_world.specs.Life.{LifeId, Life, Took}
 use Rattle.jp_types.specs.Marks.{first_mark, view_at_return}
 use Rattle.paxos_world.specs.World.{Replica, World, Sent, Deed, Take, Enter, Open, Promise, Prepared, Launch, Vote, Learn, Answer, Rejoin, Install, Execute, Restore, Say, Move, First, Return, Crash, Act, Can, Meets, MaySay, who, id_of, life_after, replica_after, of_running, sends, sends_of, to_others, after, opening}

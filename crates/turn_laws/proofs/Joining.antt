@@ -4,7 +4,7 @@ use Rattle.std.proofs.lemmas.Bool.Decides.{leb_tells, eqb_tells}
 use Rattle.std.specs.BTreeMap.{insert_entry}
 use Rattle.std.specs.Ordering.{match_ordering}
 use Rattle.std.specs.List.{flat_map}
-use Rattle.paxos_world.specs.Setup.{In}
+use Rattle.jp_types.specs.Lists.{In}
 use Rattle.kv_service.specs.Parts.{part_size}
 use Rattle.kv_service.specs.Parts.{part_count}
 use Rattle.turn_laws.proofs.Fitting.{Rising}

@@ -3,7 +3,8 @@ use Rattle.std.proofs.Common.{◌≡◌, ◌≢◌, ℕ, suc, ◌<◌, true, Lis
 use Rattle.std.proofs.lemmas.List.{append_cancel_left}
 use Rattle.std.specs.Option.{option_map_or}
 use Rattle.paxos_world.specs.declared.step.Step.{Step}
-use Rattle.paxos_world.specs.Setup.{Setup, In}
+use Rattle.jp_types.specs.Lists.{In}
+use Rattle.paxos_world.specs.Setup.{Setup}
 use Rattle.paxos_world.specs.World.{Replica, World, Sent, CanRejoin, Move, First, Return, Crash, Allowed, who, after, replica_after, ballots, sends}
 use Rattle.paxos_world.specs.World as W
 use Rattle.paxos_world.specs.Trace.{IsRun, end_of}

@@ -6,7 +6,8 @@ use Rattle.jp_types.specs.declared.mode.Phase.{Phase}
 use Rattle.jp_types.specs.declared.mode.Phase.TheVariants.{Recovering, Working}
 use Rattle.paxos_world.specs.declared.step.Step.{Step}
 use Rattle.jp_types.specs.Views.{leader, majority, count_below}
-use Rattle.paxos_world.specs.Setup.{Setup, IsQuorum, In, with_at}
+use Rattle.jp_types.specs.Lists.{In}
+use Rattle.paxos_world.specs.Setup.{Setup, IsQuorum, with_at}
 use Rattle.paxos_world.specs.Life.{Launched, Lead, Leading, Leads, Life, IsKnown}
 use Rattle.jp_types.specs.Instances.{Batch}
 use Rattle.paxos_world.specs.World.{World, Sent, Deed, Learn, Vote, Launch, HasLaunched, HasProposal, HasAccepted, MayLearn, By_votes, CanVote, CanLaunch, lead_after, id_of, sends_of, to_others}
@@ -20,7 +21,7 @@ use Rattle.paxos_world.proofs.Basics.{with_at-cases}
 use Rattle.paxos_world.proofs.Replies.{same, same-test}
 use Rattle.paxos_world.proofs.Sound.{top, LifeSound, tops_of, known-learn}
 use Rattle.turn_laws.proofs.Fitting.{Within, NoteTrue, MayRepeat, SlotTrue, Fits, Frame, Goes, to_all}
-use Rattle.turn_laws.specs.Limits.{IsBatch}
+use Rattle.jp_types.specs.Limits.{IsBatch}
 use Rattle.turn_laws.proofs.Going.{keep-when, keep-some, note-more, stage_after}
 use Rattle.turn_laws.proofs.Words.{re, goes-stage, goes-freely, goes-shows, goes-owed, to_all-is, goes-sends-all}
 use Rattle.turn_laws.proofs.Scanning.{le-of, and-of, or-of, not-known, in-span, filter-in}

@@ -10,10 +10,10 @@ use Rattle.kv_service.specs.Store.{Store, bytes_cmp}
 use Rattle.std.specs.Ordering.{nat_cmp}
 use Rattle.kv_service.specs.StateBytes.{sized_bytes, pair_bytes, reply_bytes, client_bytes, state_bytes}
 use Rattle.kv_service.specs.StateReading.{Fault, BadField, TooLong, Unordered, Place, Reader, gives, fails, read_on, ◌>>=◌, bytes, number, number_within, count_within, key, value, reply_of_kind, reply, follows, pairs, clients, state, at_end, whole, read_state, state_if, state_in}
-use Rattle.paxos_world.specs.Setup.{In}
+use Rattle.jp_types.specs.Lists.{In}
 use Rattle.paxos_world.proofs.Basics.{In-left, In-right}
 use Rattle.paxos_world.proofs.Replies.{same}
-use Rattle.turn_laws.specs.Limits.{AreBytes}
+use Rattle.jp_types.specs.Limits.{AreBytes}
 use Rattle.turn_laws.proofs.Scanning.{not-lt-of}
 
 -- ---- Readers

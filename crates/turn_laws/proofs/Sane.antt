@@ -12,7 +12,8 @@ use Rattle.kv_service.specs.Service.{State, start}
 use Rattle.kv_service.specs.StateBytes.{state_bytes}
 use Rattle.kv_service.specs.StateReading.{read_state, state_in}
 use Rattle.jp_types.specs.Views.{leader, number_limit}
-use Rattle.paxos_world.specs.Setup.{Setup, In, with_at}
+use Rattle.jp_types.specs.Lists.{In}
+use Rattle.paxos_world.specs.Setup.{Setup, with_at}
 use Rattle.paxos_world.specs.Life.{LifeId, Launched, Leading, No, Preparing, Leads, Life, Took, new_life}
 use Rattle.jp_types.specs.Instances.{Batch}
 use Rattle.jp_types.specs.Marks.{first_mark, view_at_return}
@@ -30,7 +31,8 @@ use Rattle.paxos_world.proofs.Replies.{and-true, counted_ok-is}
 use Rattle.paxos_world.proofs.Adopting.{or-some, decided_in-from, vote_in-from}
 use Rattle.paxos_world.proofs.Sound.{WorldSound, act-is, some-is, to_others-is}
 use Rattle.turn_laws.specs.Nodes.{KeepsLimits}
-use Rattle.turn_laws.specs.Limits.{AreBytes, IsBatch, IsState, StatesRead}
+use Rattle.jp_types.specs.Limits.{AreBytes, IsBatch}
+use Rattle.turn_laws.specs.Limits.{IsState, StatesRead}
 
 -- each batch in a report is within the limits
 abbrev pub AreEntries : List Entry → Type 0

@@ -2,7 +2,8 @@
 use Rattle.std.proofs.Common.{◌≡◌, ℕ, zero, suc, ◌+◌, ◌≤◌, ◌<◌, ◌⊎◌, Bool, true, false, ◌&&◌, ◌||◌, List, [], ◌∷◌, ◌++◌, filter, nat_le, nat_lt, Option, Some, None, is_some, if◌then◌else◌, refl, sym, ap, subst, inl, inr, ⊎_elim, arith, le_refl}
 use Rattle.std.proofs.lemmas.Bool.Decides.{leb_tells}
 use Rattle.jp_types.specs.declared.message.Entry.{Entry}
-use Rattle.paxos_world.specs.Setup.{Setup, In}
+use Rattle.jp_types.specs.Lists.{In}
+use Rattle.paxos_world.specs.Setup.{Setup}
 use Rattle.paxos_world.specs.Life.{Life, IsKnown, IsFirstUnknown}
 use Rattle.jp_types.specs.Instances.{Batch}
 use Rattle.paxos_world.specs.Adoption.{IsTold, IsAscending, IsReport}

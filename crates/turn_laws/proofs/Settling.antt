@@ -11,7 +11,8 @@ use Rattle.jp_types.specs.declared.mode.Mode.{Mode}
 use Rattle.jp_types.specs.declared.mode.Mode.TheVariants.{ViewSs, EpochSs}
 use Rattle.paxos_world.specs.declared.step.Step.{Step}
 use Rattle.jp_types.specs.Views.{leader, majority, count_below, number_if}
-use Rattle.paxos_world.specs.Setup.{Setup, In}
+use Rattle.jp_types.specs.Lists.{In}
+use Rattle.paxos_world.specs.Setup.{Setup}
 use Rattle.paxos_world.specs.Life.{Launched, Lead, Leading, No, Preparing, Leads, Life, IsFirstUnknown}
 use Rattle.jp_types.specs.Instances.{Batch}
 use Rattle.paxos_world.specs.Counting.{Held, is_recovering, counted_ok, is_promised, is_answered}
@@ -32,7 +33,7 @@ use Rattle.paxos_world.proofs.Replies.{same}
 use Rattle.paxos_world.proofs.Adopting.{decided_in-from, or-some}
 use Rattle.paxos_world.proofs.Sound.{top, LifeSound, LaunchedSo, tops_of}
 use Rattle.turn_laws.proofs.Fitting.{MayRepeat, SlotTrue, Fits, executions, Frame, Goes}
-use Rattle.turn_laws.specs.Limits.{IsBatch}
+use Rattle.jp_types.specs.Limits.{IsBatch}
 use Rattle.turn_laws.proofs.Sane.{IsSaneLead}
 use Rattle.turn_laws.proofs.Going.{keep-when, keep-some, keep-range, stage_after, Follows, turned_to, goes-does}
 use Rattle.turn_laws.proofs.Words.{goes-freely, goes-waiting, goes-show, goes-shows, onward-deed}

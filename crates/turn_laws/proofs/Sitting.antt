@@ -8,7 +8,8 @@ use Rattle.kv_service.specs.Service.{State, outcomes}
 use Rattle.kv_service.specs.StateReading.{state_in}
 use Rattle.paxos_world.specs.declared.step.Step.{Step}
 use Rattle.jp_types.specs.Views.{leader, number_limit}
-use Rattle.paxos_world.specs.Setup.{Setup, In}
+use Rattle.jp_types.specs.Lists.{In}
+use Rattle.paxos_world.specs.Setup.{Setup}
 use Rattle.paxos_world.specs.Life.{LifeId, Life}
 use Rattle.jp_types.specs.Instances.{Batch}
 use Rattle.paxos_world.specs.World.{World, Sent, Take, Execute, Restore, CanExecute, CanRestore, MaySay}
@@ -24,7 +25,8 @@ use Rattle.kv_service.specs.Dues.{is_due}
 use Rattle.paxos_world.specs.Turn.{quiet_limit, waiting_limit, alive_of, counts_quiet, on_tick_working, on_tick, on_batch, on_item, untouched, turn, moves_of, repeats, retransmit}
 use Rattle.paxos_world.proofs.Replies.{same}
 use Rattle.turn_laws.proofs.Fitting.{MayRepeat, SnapshotTrue, Fits, Good, ballot_of, shown_by, Frame, who_of, Goes}
-use Rattle.turn_laws.specs.Limits.{IsBatch, StatesRead}
+use Rattle.jp_types.specs.Limits.{IsBatch}
+use Rattle.turn_laws.specs.Limits.{StatesRead}
 use Rattle.turn_laws.proofs.Sane.{Sane, SaneRun}
 use Rattle.turn_laws.proofs.Going.{keep-when, keep-some, sent_by-append, handed_by-append, shown_by-append, In-snoc, stage_after, turned_to}
 use Rattle.turn_laws.proofs.Words.{goes-freely, goes-waiting, goes-plain, goes-says-each, goes-says-all, onward-refl}

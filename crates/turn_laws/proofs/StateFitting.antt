@@ -15,7 +15,8 @@ use Rattle.kv_service.specs.Service.{State, execute}
 use Rattle.kv_service.specs.Store.{Store, bytes_cmp}
 use Rattle.kv_service.specs.StateBytes.{state_bytes}
 use Rattle.kv_service.specs.StateReading.{Fault, BadField, TooLong, Unordered, Place, Reader, gives, fails, ◌>>=◌, bytes, number, number_within, count_within, key, value, reply_of_kind, reply, follows, pairs, clients, state, at_end, whole, read_state, state_if, state_in}
-use Rattle.turn_laws.specs.Limits.{AreBytes, IsKey, IsValue, StatesRead}
+use Rattle.jp_types.specs.Limits.{AreBytes, IsKey, IsValue}
+use Rattle.turn_laws.specs.Limits.{StatesRead}
 use Rattle.turn_laws.proofs.Scanning.{not-lt-of}
 use Rattle.turn_laws.proofs.Reading.{on-back, stop-back, go-back, given, rest-bytes, bytes-back, last_part, count_part, store_part, keys_part}
 use Rattle.turn_laws.proofs.StateLimits.{EntriesFit, IsReply, IsClient, IsLast, StoreFits, StateFits, execute-fits}

@@ -25,7 +25,7 @@ use Rattle.kv_service.specs.Service.{State, last_of, kind_of, take_by, take_requ
 use Rattle.kv_service.proofs.Places.{ascending_insert}
 use Rattle.kv_service.proofs.Requests.{executed-take_requests}
 use Rattle.jp_types.specs.Instances.{Batch}
-use Rattle.turn_laws.specs.Limits.{IsKey, IsValue, IsCommand, IsRequest, IsBatch}
+use Rattle.jp_types.specs.Limits.{IsKey, IsValue, IsCommand, IsRequest, IsBatch}
 
 -- each entry has a key and a value of these kinds
 abbrev pub EntriesFit : {K X : Type 0} → (K → Type 0) → (X → Type 0) → List (K × X) → Type 0

@@ -17,7 +17,8 @@ use Rattle.kv_service.specs.StateBytes.{sized_bytes, pair_bytes, reply_bytes, cl
 use Rattle.kv_service.specs.StateReading.{Fault, BadField, TooLong, Unordered, Truncated, Place, Reader, gives, fails, read_on, ◌>>=◌, bytes, number, number_within, count_within, key, value, reply_of_kind, reply, follows, pairs, clients, state, at_end, whole, read_state, state_if, state_in}
 use Rattle.paxos_world.proofs.Basics.{In-append}
 use Rattle.paxos_world.proofs.Replies.{same-test}
-use Rattle.turn_laws.specs.Limits.{AreBytes, IsKey, IsValue, IsState}
+use Rattle.jp_types.specs.Limits.{AreBytes, IsKey, IsValue}
+use Rattle.turn_laws.specs.Limits.{IsState}
 use Rattle.turn_laws.proofs.Reading.{value_of, value_2, value_4, value_8, last_part, count_part, store_part, keys_part}
 use Rattle.turn_laws.proofs.StateLimits.{EntriesFit, IsReply, IsClient, IsLast, StateFits, few-clients}
 

@@ -6,7 +6,8 @@ use Rattle.jp_types.specs.declared.mode.Phase.TheVariants.{Recovering}
 use Rattle.jp_types.specs.declared.mode.Mode.{Mode}
 use Rattle.jp_types.specs.declared.mode.Mode.TheVariants.{ViewSs, EpochSs}
 use Rattle.paxos_world.specs.declared.step.Step.{Step}
-use Rattle.paxos_world.specs.Setup.{Setup, In}
+use Rattle.jp_types.specs.Lists.{In}
+use Rattle.paxos_world.specs.Setup.{Setup}
 use Rattle.paxos_world.specs.Life.{LifeId, Life}
 use Rattle.jp_types.specs.Instances.{Batch}
 use Rattle.paxos_world.specs.World.{World, Sent, Deed, Take, Enter, Open, Promise, Prepared, Launch, Vote, Learn, Answer, Rejoin, Install, Execute, Restore, Say, Can, MaySay, id_of, life_after, stable_after, sends_of, to_others}
@@ -15,7 +16,7 @@ use Rattle.paxos_world.specs.Writing.{◌▹◌, when, when_some, for_each, for_
 use Rattle.paxos_world.specs.Writing as Word
 use Rattle.paxos_world.proofs.Basics.{with_at-cases, In-append}
 use Rattle.turn_laws.proofs.Fitting.{Fits, executions, shown_by, Ahead, Frame, who_of, Goes, to_all}
-use Rattle.turn_laws.specs.Limits.{IsBatch}
+use Rattle.jp_types.specs.Limits.{IsBatch}
 use Rattle.turn_laws.proofs.Going.{keep-each, sent_by-append, handed_by-append, shown_by-append, stage_after, Follows, turned_to, goes-does}
 use Rattle.turn_laws.specs.Nodes.{Onward, sent_by, handed_by, KeepsLimits}
 

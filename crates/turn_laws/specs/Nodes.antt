@@ -4,7 +4,8 @@ use Rattle.std.specs.Option.{option_map_or}
 use Rattle.kv_service.specs.Service.{State}
 use Rattle.kv_service.specs.StateBytes.{state_bytes}
 use Rattle.jp_types.specs.Views.{number_limit}
-use Rattle.paxos_world.specs.Setup.{Setup, In}
+use Rattle.jp_types.specs.Lists.{In}
+use Rattle.paxos_world.specs.Setup.{Setup}
 use Rattle.paxos_world.specs.Life.{LifeId, Life}
 use Rattle.jp_types.specs.Instances.{Batch}
 use Rattle.paxos_world.specs.World.{World, Sent, Deed, Launch, Install, Execute, CanRejoin, Move, Allowed, who, after}
@@ -15,7 +16,8 @@ use Rattle.paxos_world.specs.Writing.{◌▹◌}
 use Rattle.paxos_world.specs.Serving.{serves}
 use Rattle.paxos_world.specs.Turn.{untouched, turn, retransmit, Opened, opening, moves_of, opening_moves}
 use Rattle.paxos_world.specs.Shown.{shown_along, sends_along, shown_in}
-use Rattle.turn_laws.specs.Limits.{IsBatch, IsState}
+use Rattle.jp_types.specs.Limits.{IsBatch}
+use Rattle.turn_laws.specs.Limits.{IsState}
 
 -- ---- What acts do
 
