@@ -1,6 +1,6 @@
 use Rattle.std.proofs.Common.{◌≡◌, ◌++◌, drop}
-use Rattle.schedules.specs.Text.{hex}
-use Rattle.schedules.proofs.show_parts.push_hex.Given as goal
+use Rattle.text_lines.specs.Texts.{hex}
+use Rattle.text_lines.proofs.texts.push_hex.Given as goal
 
 -- what is written so far and what is left is all
 abbrev pub invariant-loop-byte : goal.invariant-loop-byte

@@ -1,9 +1,10 @@
-//! Numbers, words and bytes as the text of a run writes them.
+//! Numbers, words, bytes and replies as text.
 
 ghost use Rattle.std.specs.Prelude.{◌≡◌, ◌<◌, false, [], ◌∷◌, ◌++◌, decimal, OnOk};
 ghost use Rattle.std.specs.Fmt.{digit_glyph};
-ghost use Rattle.schedules.specs.Text.{numbers, hex, show_bytes as bytes_text, pair_text};
+ghost use Rattle.text_lines.specs.Texts.{numbers, hex, show_bytes as bytes_text, show_reply as reply_text};
 
+use jp_types::command::Reply;
 use jp_types::memory::NoMemory;
 use jp_types::message::ReplicaId;
 
@@ -24,7 +25,7 @@ pub fn push_byte(byte: u8, out: &mut Vec<u8>) -> Result<(), NoMemory>
 }
 
 /// Appends a number in decimal.
-pub(crate) fn push_decimal(number: u64, out: &mut Vec<u8>) -> Result<(), NoMemory>
+pub fn push_decimal(number: u64, out: &mut Vec<u8>) -> Result<(), NoMemory>
     ensures { OnOk result (out.new.items ≡ out.old.items ++ decimal number) }
 {
     if number < 10 {
@@ -35,7 +36,7 @@ pub(crate) fn push_decimal(number: u64, out: &mut Vec<u8>) -> Result<(), NoMemor
 }
 
 /// Appends a number of 128 bits in decimal.
-pub(crate) fn push_wide_decimal(number: u128, out: &mut Vec<u8>) -> Result<(), NoMemory>
+pub fn push_wide_decimal(number: u128, out: &mut Vec<u8>) -> Result<(), NoMemory>
     ensures { OnOk result (out.new.items ≡ out.old.items ++ decimal number) }
 {
     if number < 10 {
@@ -46,7 +47,7 @@ pub(crate) fn push_wide_decimal(number: u128, out: &mut Vec<u8>) -> Result<(), N
 }
 
 /// Appends numbers, each with a space before it.
-pub(crate) fn push_numbers(all: &[u64], out: &mut Vec<u8>) -> Result<(), NoMemory>
+pub fn push_numbers(all: &[u64], out: &mut Vec<u8>) -> Result<(), NoMemory>
     ensures { OnOk result (out.new.items ≡ out.old.items ++ numbers all.now) }
 {
     for number in all {
@@ -65,7 +66,7 @@ pub fn push_named(word: &[u8], all: &[u64], out: &mut Vec<u8>) -> Result<(), NoM
 }
 
 /// Appends a word, a replica and a number of it.
-pub(crate) fn push_number_at(
+pub fn push_number_at(
     word: &[u8],
     replica: ReplicaId,
     number: u64,
@@ -74,15 +75,6 @@ pub(crate) fn push_number_at(
     ensures { OnOk result (out.new.items ≡ out.old.items ++ (word.now ++ numbers (replica ∷ number ∷ []))) }
 {
     push_named(word, &[u64::from(replica), number], out)
-}
-
-/// Appends a client and the number of its request.
-pub(crate) fn push_pair(client: u64, number: u64, out: &mut Vec<u8>) -> Result<(), NoMemory>
-    ensures { OnOk result (out.new.items ≡ out.old.items ++ pair_text client number) }
-{
-    push_decimal(client, out)?;
-    out.push(b'.')?;
-    push_decimal(number, out)
 }
 
 fn hex_digit(value: u8) -> u8
@@ -97,7 +89,7 @@ fn hex_digit(value: u8) -> u8
 }
 
 /// Appends two lower-case digits for each byte.
-pub(crate) fn push_hex(bytes: &[u8], out: &mut Vec<u8>) -> Result<(), NoMemory>
+pub fn push_hex(bytes: &[u8], out: &mut Vec<u8>) -> Result<(), NoMemory>
     ensures { OnOk result (out.new.items ≡ out.old.items ++ hex bytes.now) }
 {
     for byte in bytes {
@@ -108,11 +100,26 @@ pub(crate) fn push_hex(bytes: &[u8], out: &mut Vec<u8>) -> Result<(), NoMemory>
 }
 
 /// Appends a key or a value: `-` where it has no bytes.
-pub(crate) fn show_bytes(bytes: &[u8], out: &mut Vec<u8>) -> Result<(), NoMemory>
+pub fn show_bytes(bytes: &[u8], out: &mut Vec<u8>) -> Result<(), NoMemory>
     ensures { OnOk result (out.new.items ≡ out.old.items ++ bytes_text bytes.now) }
 {
     if bytes.is_empty() {
         return push_text(b"-", out);
     }
     push_hex(bytes, out)
+}
+
+/// Appends a reply.
+pub fn show_reply(reply: &Reply, out: &mut Vec<u8>) -> Result<(), NoMemory>
+    ensures { OnOk result (out.new.items ≡ out.old.items ++ reply_text reply.now) }
+{
+    match reply {
+        Reply::Done => push_text(b"ok", out),
+        Reply::Value(value) => {
+            push_text(b"value:", out)?;
+            show_bytes(value.bytes(), out)
+        }
+        Reply::NoKey => push_text(b"none", out),
+        Reply::NoRoom => push_text(b"full", out),
+    }
 }

@@ -6,8 +6,7 @@ use Rattle.std.proofs.lemmas.List.Folds.{list_all-map}
 use Rattle.jp_types.specs.declared.cause.Cause.{Cause}
 use Rattle.jp_types.specs.declared.cause.Cause.TheVariants.{Text}
 use Rattle.jp_types.specs.Words.{◌>>=◌, where_so, is_empty, words_of}
-use Rattle.schedules.specs.Schedule.{Raw, is_text_line, as_text}
-use Rattle.schedules.specs.Reading.{text_words}
+use Rattle.text_lines.specs.Lines.{Raw, is_text_line, as_text, text_words}
 
 -- what is read as text is read from its words
 pub from_words : {A : Type 0} (raw : Raw) (f : List (List ℕ) → Result A Cause) → as_text raw f ≡ (text_words raw >>= f)

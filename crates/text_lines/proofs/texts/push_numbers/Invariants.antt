@@ -1,6 +1,6 @@
 use Rattle.std.proofs.Common.{◌≡◌, ◌++◌, drop}
-use Rattle.schedules.specs.Text.{numbers}
-use Rattle.schedules.proofs.show_parts.push_numbers.Given as goal
+use Rattle.text_lines.specs.Texts.{numbers}
+use Rattle.text_lines.proofs.texts.push_numbers.Given as goal
 
 -- what is written so far and what is left is all
 abbrev pub invariant-loop-number : goal.invariant-loop-number

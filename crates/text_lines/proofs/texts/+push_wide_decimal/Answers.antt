@@ -1,6 +1,6 @@
 use Rattle.std.proofs.Common.{append_assoc, arith}
 use Rattle.std.proofs.lemmas.Fmt.{decimal_digit, decimal_step_wide}
-use Rattle.schedules.proofs.show_parts.+push_wide_decimal.Goals as goal
+use Rattle.text_lines.proofs.texts.+push_wide_decimal.Goals as goal
 
 pub returns-then-number-lt10 : goal.returns-then-number-lt10
 returns-then-number-lt10 t c = rw (decimal_digit c.args.number c.if-number-lt10.true) c.push_byte.ensures
