@@ -2,3 +2,4 @@ pub mod Faults
 pub mod Reading
 pub mod Telling
 pub mod Spelling
+pub mod Laws

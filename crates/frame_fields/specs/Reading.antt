@@ -1,5 +1,5 @@
 -- The fields of a frame, read from the front: a value and the place behind it, or the first fault that is met.
-use Rattle.std.specs.Prelude.{ℕ, zero, suc, ◌+◌, ◌*◌, ◌^◌, Bool, List, [], ◌∷◌, length, take, drop, fold, nat_lt, ◌==◌, if◌then◌else◌, Option, Some, None, Result, Ok, Err}
+use Rattle.std.specs.Prelude.{ℕ, zero, suc, ◌+◌, ◌*◌, ◌^◌, List, [], ◌∷◌, length, take, drop, fold, nat_lt, ◌==◌, if◌then◌else◌, Option, Some, None, Result, Ok, Err}
 use Rattle.jp_types.specs.declared.command.Command.{Command}
 use Rattle.jp_types.specs.declared.command.Command.TheVariants as command_kind
 use Rattle.jp_types.specs.declared.command.Reply.{Reply}
@@ -93,6 +93,10 @@ optional reader = number_within 1 0 1 >>= λ tag. if tag == 0 then gives None el
 abbrev pub times : {A : Type 0} → ℕ → Reader A → Reader (List A)
 times zero reader = gives []
 times (suc k) reader = reader >>= λ x. times k reader >>= λ more. gives (x ∷ more)
+
+-- what the reader reads as a batch: none of its fields may end more than 65,536 bytes behind its first byte
+abbrev pub in_batch : {A : Type 0} → Reader A → Reader A
+in_batch reader place = read_on (reader (record place { batch = Some place.at })) (λ x behind. gives x (record behind { batch = None }))
 
 -- a command of a listed kind
 abbrev pub command_of_kind : ℕ → Reader Command

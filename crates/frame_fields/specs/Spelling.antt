@@ -1,5 +1,5 @@
 -- How the fields of a frame are spelt. Each number is big-endian.
-use Rattle.std.specs.Prelude.{ℕ, List, [], ◌∷◌, ◌++◌, length, flat_map, Option, Some, None}
+use Rattle.std.specs.Prelude.{ℕ, ◌+◌, ◌-◌, List, [], ◌∷◌, ◌++◌, length, take, drop, Option, Some, None}
 use Rattle.std.specs.Int.{to_be_bytes, w16, w32, w64}
 use Rattle.jp_types.specs.declared.command.Command.{Command}
 use Rattle.jp_types.specs.declared.command.Command.TheVariants.{Put, Get, Del, Cas}
@@ -11,17 +11,17 @@ use Rattle.jp_types.specs.declared.command.Request.{Request}
 abbrev pub sized_bytes : List ℕ → List ℕ
 sized_bytes bytes = to_be_bytes w16 (length bytes) ++ bytes
 
--- a tag, and the value that it says is there
-abbrev pub old_bytes : Option (List ℕ) → List ℕ
-old_bytes None = 0 ∷ []
-old_bytes (Some value) = 1 ∷ sized_bytes value
+-- a tag 0 for nothing, or a tag 1 and the thing
+abbrev pub optional_bytes : {A : Type 0} → (A → List ℕ) → Option A → List ℕ
+optional_bytes spelling None = 0 ∷ []
+optional_bytes spelling (Some x) = 1 ∷ spelling x
 
 -- a command's kind, and its parts
 abbrev pub command_bytes : Command → List ℕ
 command_bytes (Put key value) = 1 ∷ sized_bytes key ++ sized_bytes value
 command_bytes (Get key) = 2 ∷ sized_bytes key
 command_bytes (Del key) = 3 ∷ sized_bytes key
-command_bytes (Cas key old new) = 4 ∷ sized_bytes key ++ old_bytes old ++ sized_bytes new
+command_bytes (Cas key old new) = 4 ∷ sized_bytes key ++ optional_bytes sized_bytes old ++ sized_bytes new
 
 -- a reply's kind, and its value
 abbrev pub reply_bytes : Reply → List ℕ
@@ -37,3 +37,11 @@ request_bytes r = to_be_bytes w64 r.client ++ to_be_bytes w64 r.number ++ comman
 -- a frame: the length of what follows it, its kind, and its fields
 abbrev pub frame_of : ℕ → List ℕ → List ℕ
 frame_of kind fields = to_be_bytes w32 (length (kind ∷ fields)) ++ kind ∷ fields
+
+-- the front of a frame whose length is filled in later
+abbrev pub begun_frame : ℕ → List ℕ
+begun_frame kind = 0 ∷ 0 ∷ 0 ∷ 0 ∷ kind ∷ []
+
+-- bytes with the length filled in of the frame that begins at this place and ends where they do
+abbrev pub filled : ℕ → List ℕ → List ℕ
+filled place bytes = take place bytes ++ to_be_bytes w32 (length bytes - (place + 4)) ++ drop (place + 4) bytes

@@ -1,5 +1,5 @@
 -- What a reader that may want memory answers: what its definition reads, or nothing.
-use Rattle.std.specs.Prelude.{◌≡◌, ℕ, List, Option, Some, None, Result, Ok, Err}
+use Rattle.std.specs.Prelude.{◌≡◌, Option, Some, None, Result, Ok, Err}
 use Rattle.frame_fields.specs.declared.fault.FrameFault.{FrameFault}
 use Rattle.frame_fields.specs.declared.fault.FrameFault.TheVariants as answer
 use Rattle.frame_fields.specs.Faults.{Fault}

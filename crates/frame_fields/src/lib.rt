@@ -3,4 +3,5 @@
 
 pub mod fault;
 pub mod fields;
+pub mod laws;
 pub mod spelling;

@@ -1,8 +1,8 @@
 //! The bytes of the fields of a frame, each appended to those before.
 
-ghost use Rattle.std.specs.Prelude.{◌≡◌, ◌≤◌, ◌+◌, ◌-◌, [], ◌∷◌, ◌++◌, List, Option, length, take, drop, OnOk, IfOk};
+ghost use Rattle.std.specs.Prelude.{◌≡◌, ◌≤◌, ◌+◌, [], ◌∷◌, ◌++◌, ℕ, List, length, OnOk, IfOk};
 ghost use Rattle.std.specs.Int.{to_be_bytes, w16, w32, w64};
-ghost use Rattle.frame_fields.specs.Spelling.{sized_bytes, old_bytes, command_bytes, reply_bytes, request_bytes};
+ghost use Rattle.frame_fields.specs.Spelling.{sized_bytes, optional_bytes, command_bytes, reply_bytes, request_bytes, frame_of, begun_frame, filled};
 
 use jp_types::command::{Command, Reply, Request};
 use jp_types::memory::NoMemory;
@@ -55,8 +55,8 @@ pub fn push_sized(out: &mut Vec<u8>, sized: &[u8]) -> Result<(), NoMemory>
 }
 
 /// A tag, and the value if there is one.
-pub fn push_old(out: &mut Vec<u8>, old: &Option<Octets>) -> Result<(), NoMemory>
-    ensures { OnOk result (out.new.items ≡ out.old.items ++ old_bytes old.now) }
+pub fn push_optional_value(out: &mut Vec<u8>, old: &Option<Octets>) -> Result<(), NoMemory>
+    ensures { OnOk result (out.new.items ≡ out.old.items ++ optional_bytes sized_bytes old.now) }
 {
     match old {
         Some(value) => {
@@ -66,6 +66,19 @@ pub fn push_old(out: &mut Vec<u8>, old: &Option<Octets>) -> Result<(), NoMemory>
         None => out.push(0)?,
     }
     Ok(())
+}
+
+/// A tag, and the number in eight bytes if there is one.
+pub fn push_optional_number(out: &mut Vec<u8>, number: Option<u64>) -> Result<(), NoMemory>
+    ensures { OnOk result (out.new.items ≡ out.old.items ++ optional_bytes (to_be_bytes w64) number) }
+{
+    match number {
+        Some(number) => {
+            out.push(1)?;
+            push_number(out, number)
+        }
+        None => push_byte(out, 0),
+    }
 }
 
 /// A command's kind, and its parts.
@@ -89,7 +102,7 @@ pub fn push_command(out: &mut Vec<u8>, command: &Command) -> Result<(), NoMemory
         Command::Cas { key, old, new } => {
             out.push(4)?;
             push_sized(out, key.bytes())?;
-            push_old(out, old)?;
+            push_optional_value(out, old)?;
             push_sized(out, new.bytes())
         }
     }
@@ -122,7 +135,7 @@ pub fn push_request(out: &mut Vec<u8>, request: &Request) -> Result<(), NoMemory
 
 /// Room for a frame's length, which `end_frame` fills, and the frame's kind. The answer is the place of the frame.
 pub fn begin_frame(out: &mut Vec<u8>, kind: u8) -> Result<usize, NoMemory>
-    ensures items { OnOk result (out.new.items ≡ out.old.items ++ 0 ∷ 0 ∷ 0 ∷ 0 ∷ kind ∷ []) }
+    ensures items { OnOk result (out.new.items ≡ out.old.items ++ begun_frame kind) }
     ensures place { IfOk result (λ place. place ≡ length out.old.items) }
 {
     let place = out.len();
@@ -133,7 +146,15 @@ pub fn begin_frame(out: &mut Vec<u8>, kind: u8) -> Result<usize, NoMemory>
 /// Fills in the length of the frame that begins at this place and ends where `out` does.
 pub fn end_frame(out: &mut Vec<u8>, place: usize)
     requires { place + 4 ≤ length out.old.items }
-    ensures { out.new.items ≡ take place out.old.items ++ to_be_bytes w32 (length out.old.items - (place + 4)) ++ drop (place + 4) out.old.items }
+    ensures filled { out.new.items ≡ filled place out.old.items }
+    ensures frame { (before : List ℕ) (kind : ℕ) (fields : List ℕ) → place ≡ length before → out.old.items ≡ before ++ begun_frame kind ++ fields → out.new.items ≡ before ++ frame_of kind fields }
+{
+    fill_length(out, place);
+}
+
+fn fill_length(out: &mut Vec<u8>, place: usize)
+    requires { place + 4 ≤ length out.old.items }
+    ensures { out.new.items ≡ filled place out.old.items }
 {
     let size = ((out.len() - place - LENGTH) as u64).to_be_bytes();
     out[place..place + LENGTH].copy_from_slice(&size[4..]);
