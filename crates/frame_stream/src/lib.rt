@@ -1,0 +1,6 @@
+//! Reading a stream of frames under any cutting into pieces, by a grammar that tells which kinds there are and what the
+//! fields of a frame spell.
+#![tactic(auto)]
+
+pub mod grammar;
+pub mod reader;
