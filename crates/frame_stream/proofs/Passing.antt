@@ -27,6 +27,7 @@ frame_of_kind-append {Item} rules at len kind bytes more some = listed (rules.is
       let enough : 4 + len ≤ length bytes = ltb-false _ _ long in
       let later : nat_lt (length (bytes ++ more)) (4 + len) ≡ false = le-ltb _ _ (omega (arith, length-append bytes more)) in
       inr (rw (e, long, later, slice_range-append bytes more 5 (4 + len) (omega arith) enough))
+
   listed : (b : Bool) → rules.is_listed kind ≡ b → Stays (frame_of_kind rules at len kind bytes) (frame_of_kind rules at len kind (bytes ++ more))
   listed false e = inr (rw e)
   listed true e = whole (nat_lt (length bytes) (4 + len)) refl e
@@ -43,9 +44,11 @@ frame_of_length-append {Item} rules at len bytes more = short (nat_lt longest le
       let kind : slice_index (bytes ++ more) 4 ≡ slice_index bytes 4 = get_or_append_left bytes more 0 4 (omega arith) in
       let some : 1 ≤ len = omega (arith, eqb-false len 0 z) in
       rw (l, z, e, later, kind) (frame_of_kind-append rules at len (slice_index bytes 4) bytes more some)
+
   some : (b : Bool) → (len == 0) ≡ b → nat_lt longest len ≡ false → Stays (frame_of_length rules at len bytes) (frame_of_length rules at len (bytes ++ more))
   some true z l = inr (rw (l, z))
   some false z l = headed (nat_lt (length bytes) 5) refl l z
+
   short : (b : Bool) → nat_lt longest len ≡ b → Stays (frame_of_length rules at len bytes) (frame_of_length rules at len (bytes ++ more))
   short true l = inr (rw l)
   short false l = some (len == 0) refl l
@@ -87,8 +90,9 @@ frame_of_kind-size {Item} rules at len kind bytes = listed (rules.is_listed kind
   whole true short e = rw (e, short) (omega arith)
   whole false long e =
       let enough : 4 + len ≤ length bytes = ltb-false _ _ long in
-      let small : size_of (spelt (rules.reads kind (behind at 5) (slice_range bytes 5 (4 + len))) (4 + len)) ≤ 4 + len = spelt-size _ _ in
+      let small : size_of (spelt (rules.reads kind (behind at 5) (slice_range bytes 5 (4 + len))) (4 + len)) ≤ 4 + len = spelt-size (rules.reads kind (behind at 5) (slice_range bytes 5 (4 + len))) (4 + len) in
       rw (e, long) (omega arith)
+
   listed : (b : Bool) → rules.is_listed kind ≡ b → size_of (frame_of_kind rules at len kind bytes) ≤ length bytes
   listed false e = rw e (omega arith)
   listed true e = whole (nat_lt (length bytes) (4 + len)) refl e
@@ -98,9 +102,11 @@ frame_of_length-size {Item} rules at len bytes = short (nat_lt longest len) refl
   headed : (b : Bool) → nat_lt (length bytes) 5 ≡ b → nat_lt longest len ≡ false → (len == 0) ≡ false → size_of (frame_of_length rules at len bytes) ≤ length bytes
   headed true e l z = rw (l, z, e) (omega arith)
   headed false e l z = rw (l, z, e) (frame_of_kind-size rules at len (slice_index bytes 4) bytes)
+
   some : (b : Bool) → (len == 0) ≡ b → nat_lt longest len ≡ false → size_of (frame_of_length rules at len bytes) ≤ length bytes
   some true z l = rw (l, z) (omega arith)
   some false z l = headed (nat_lt (length bytes) 5) refl l z
+
   short : (b : Bool) → nat_lt longest len ≡ b → size_of (frame_of_length rules at len bytes) ≤ length bytes
   short true l = rw l (omega arith)
   short false l = some (len == 0) refl l

@@ -3,4 +3,7 @@
 #![tactic(auto)]
 
 pub mod grammar;
+pub mod laws;
 pub mod reader;
+#[cfg(test)]
+mod tests;

@@ -41,7 +41,12 @@ fn frame_of_kind<G: Grammar>(
     if bytes.len() < end {
         return Ok(None);
     }
-    let item = grammar.read(alloc, kind, at.saturating_add(HEAD as u64), &bytes[HEAD..end])?;
+    let item = grammar.read(
+        alloc,
+        kind,
+        at.saturating_add(HEAD as u64),
+        &bytes[HEAD..end],
+    )?;
     Ok(Some((item, end)))
 }
 
