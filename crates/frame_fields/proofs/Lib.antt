@@ -1,0 +1,4 @@
+pub mod Batches
+pub mod Spellings
+pub mod FieldSpellings
+pub mod Framing

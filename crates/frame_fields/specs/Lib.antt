@@ -1,0 +1,5 @@
+pub mod Faults
+pub mod Reading
+pub mod Telling
+pub mod Spelling
+pub mod Laws

@@ -1,0 +1,4 @@
+pub mod Passing
+pub mod Feeding
+pub mod OneReading
+pub mod Spelt
