@@ -5,7 +5,8 @@ use Rattle.jp_types.specs.declared.status.Status.{Status}
 use Rattle.jp_types.specs.declared.status.Status.TheVariants.{Done, Usage, BadSchedule, TooLarge, ReadFault, WriteFault, NoMemory}
 use Rattle.schedules.specs.declared.event.Run.{Run}
 use Rattle.schedules.specs.declared.schedule.Schedule.{Schedule}
-use Rattle.schedules.specs.Schedule.{Bad, is_too_long, has_too_many_lines, read_schedule}
+use Rattle.text_lines.specs.Lines.{Bad}
+use Rattle.schedules.specs.Schedule.{is_too_long, has_too_many_lines, read_schedule}
 use Rattle.schedules.specs.Run.{run_of, sends_too_much}
 use Rattle.schedules.specs.Text.{show}
 use Rattle.schedules.specs.Generator.{generate, summary}

@@ -5,7 +5,7 @@ use Rattle.jp_types.specs.declared.status.Status.{Status}
 use Rattle.jp_types.specs.declared.status.Status.TheVariants.{Usage, BadSchedule, TooLarge}
 use Rattle.jp_types.specs.Causes.{cause_number}
 use Rattle.jp_types.specs.Words.{◌>>=◌, number}
-use Rattle.schedules.specs.Text.{numbers}
+use Rattle.text_lines.specs.Texts.{numbers}
 use Rattle.jpaxos.specs.declared.command.Command.{Command}
 use Rattle.jpaxos.specs.declared.command.Command.TheVariants.{Cluster, Gen}
 

@@ -14,7 +14,7 @@ use jp_types::memory::NoMemory;
 use jp_types::octets::Octets;
 use jp_types::status::Status;
 use schedules::schedule::{Schedule, ScheduleFault, read_schedule};
-use schedules::show_parts::{push_byte, push_named, push_text};
+use text_lines::texts::{push_byte, push_named, push_text};
 use schedules::summary::summary;
 use schedules::text::show;
 use std::alloc::Global;

@@ -14,7 +14,8 @@ use Rattle.jp_types.specs.Commands.{key, value, old_value, put_of, get_of, del_o
 use Rattle.schedules.specs.declared.line.Head.{Head}
 use Rattle.schedules.specs.declared.line.Line.{Line}
 use Rattle.schedules.specs.declared.schedule.Schedule.{Schedule}
-use Rattle.schedules.specs.Schedule.{Bad, Raw, is_text_line, mode, replica, head_of, plain, request_of, deliver_of, end_of, line_by_words, first_by_words, as_text, is_end, at_line, after_end, rest_of, schedule_of, lines_of, read_schedule}
+use Rattle.text_lines.specs.Lines.{Bad, Raw, is_text_line, mode, as_text, at_line, lines_of}
+use Rattle.schedules.specs.Schedule.{replica, head_of, plain, request_of, deliver_of, end_of, line_by_words, first_by_words, is_end, after_end, rest_of, schedule_of, read_schedule}
 use Rattle.schedules.specs.Heads.{IsHead}
 use Rattle.schedules.specs.Reading.{ReadsLines}
 use Rattle.schedules.specs.declared.schedule.ScheduleFault.{ScheduleFault}

@@ -18,7 +18,8 @@ use Rattle.schedules.specs.declared.event.Event.{Event}
 use Rattle.schedules.specs.declared.event.Run.{Run}
 use Rattle.paxos_world.specs.declared.last.Last.{Last}
 use Rattle.schedules.specs.Run.{event, first_event}
-use Rattle.schedules.specs.Text.{numbers, spaced, show_phase}
+use Rattle.schedules.specs.Text.{show_phase}
+use Rattle.text_lines.specs.Texts.{numbers, spaced}
 
 -- ---- Drawing
 

@@ -10,13 +10,10 @@ use Rattle.jp_types.specs.declared.read_command.LineFault.{LineFault}
 use Rattle.jp_types.specs.declared.read_command.LineFault.TheVariants as line_fault
 use Rattle.schedules.specs.declared.schedule.ScheduleFault.{ScheduleFault}
 use Rattle.schedules.specs.declared.schedule.ScheduleFault.TheVariants as fault
-use Rattle.schedules.specs.Schedule.{Bad, Raw, is_text_line, as_text, replica, plain, deliver_of, end_of, line_by_words, first_by_words, at_line, rest_of, lines_of}
+use Rattle.text_lines.specs.Lines.{Bad, Raw, as_text, at_line, lines_of, first_raw, behind_first}
+use Rattle.schedules.specs.Schedule.{replica, plain, deliver_of, end_of, line_by_words, first_by_words, rest_of}
 
 -- ---- Lines
-
--- the words of a line that is well formed as text
-abbrev pub text_words : Raw → Result (List (List ℕ)) Cause
-text_words raw = where_so (is_text_line raw) (words_of raw.text) Text
 
 -- the replica that is a line's one operand
 abbrev pub lone_replica : ℕ → List (List ℕ) → Result ℕ Cause
@@ -69,18 +66,6 @@ ReadsLines (Err fault.NoMemory) r = Unit {0}
 abbrev pub fault_at : ℕ → LineFault → ScheduleFault
 fault_at k (line_fault.Cause cause) = fault.Bad k cause
 fault_at k line_fault.NoMemory = fault.NoMemory
-
--- whether a byte is a line feed
-abbrev pub is_feed : ℕ → Bool
-is_feed c = c == 10
-
--- the first line of an input that is not empty
-abbrev pub first_raw : List ℕ → Raw
-first_raw input = record { text = before_first is_feed input; ended = nat_lt (position_or_len is_feed input) (length input) }
-
--- what stands behind the first line
-abbrev pub behind_first : List ℕ → List ℕ
-behind_first input = after_first is_feed input
 
 -- the first line of a schedule
 abbrev pub head_at : List ℕ → Result Head Bad

@@ -8,45 +8,12 @@ use Rattle.jp_types.specs.declared.mode.Mode.{Mode}
 use Rattle.jp_types.specs.declared.mode.Mode.TheVariants.{ViewSs, EpochSs}
 use Rattle.jp_types.specs.Words.{◌>>=◌, where_so, is_empty, words_of, number}
 use Rattle.jp_types.specs.Commands.{command}
+use Rattle.text_lines.specs.Lines.{Bad, Raw, lines_of, as_text, at_line, mode}
 use Rattle.schedules.specs.declared.line.Head.{Head}
 use Rattle.schedules.specs.declared.line.Line.{Line}
 use Rattle.schedules.specs.declared.schedule.Schedule.{Schedule}
 
--- a wrong line, counted from 1
-pub record Bad : Type 0 where
-  pub line : ℕ
-  pub cause : Cause
-
--- ---- Lines and words
-
--- whether each byte is printable ASCII, and spaces stand only between two words, one at a time
-abbrev pub is_text : List ℕ → Bool
-is_text line = list_all (λ c. is_in_range 32 126 c) line && list_all (λ word. not (is_empty word)) (words_of line)
-
--- a line as it is found, and whether a line feed ends it
-pub record Raw : Type 0 where
-  pub text : List ℕ
-  pub ended : Bool
-
--- the lines in the pieces between line feeds: the last piece has no line feed, and is no line where it is empty
-abbrev pub raw_lines : List (List ℕ) → List Raw
-raw_lines [] = []
-raw_lines (piece ∷ []) = if is_empty piece then [] else record { text = piece; ended = false } ∷ []
-raw_lines (piece ∷ next ∷ pieces) = record { text = piece; ended = true } ∷ raw_lines (next ∷ pieces)
-
--- the lines of an input
-abbrev pub lines_of : List ℕ → List Raw
-lines_of input = raw_lines (slice_split (λ c. c == 10) input)
-
--- whether a line is well formed as text
-abbrev pub is_text_line : Raw → Bool
-is_text_line raw = raw.ended && is_text raw.text
-
 -- ---- Operands
-
--- the mode that a word names
-abbrev pub mode : List ℕ → Result Mode Cause
-mode word = if bytes_eq word (codes "viewss") then Ok ViewSs else (if bytes_eq word (codes "epochss") then Ok EpochSs else Err BadMode)
 
 -- a replica of so many
 abbrev pub replica : ℕ → List ℕ → Result ℕ Cause
@@ -103,19 +70,10 @@ abbrev pub first_by_words : List (List ℕ) → Result Head Cause
 first_by_words [] = Err NoCluster
 first_by_words (word ∷ operands) = if bytes_eq word (codes "cluster") then head_of operands else Err NoCluster
 
--- what a line is read as, where it is well formed as text
-abbrev pub as_text : {A : Type 0} → Raw → (List (List ℕ) → Result A Cause) → Result A Cause
-as_text raw f = where_so (is_text_line raw) raw.text Text >>= λ text. f (words_of text)
-
 -- whether a line is the last
 abbrev pub is_end : Line → Bool
 is_end Line.End = true
 is_end _ = false
-
--- a cause at a line
-abbrev pub at_line : {A : Type 0} → ℕ → Result A Cause → Result A Bad
-at_line k (Ok x) = Ok x
-at_line k (Err cause) = Err (record { line = k; cause = cause })
 
 -- behind `end` no line stands
 abbrev pub after_end : ℕ → List Raw → Result (List Line) Bad

@@ -18,28 +18,13 @@ use Rattle.schedules.specs.declared.line.Line.{Line}
 use Rattle.schedules.specs.declared.line.Word.{Word}
 use Rattle.schedules.specs.declared.line.Word.TheVariants.{Done, Empty, Full, Down, Up, Unsent}
 use Rattle.jp_types.specs.Words.{◌>>=◌}
-use Rattle.schedules.specs.Schedule.{Bad, read_schedule}
+use Rattle.text_lines.specs.Lines.{Bad}
+use Rattle.text_lines.specs.Texts.{spaced, numbers, hex, show_bytes, show_reply}
+use Rattle.schedules.specs.Schedule.{read_schedule}
 use Rattle.schedules.specs.declared.event.Event.{Event}
 use Rattle.schedules.specs.declared.event.Run.{Run}
 use Rattle.paxos_world.specs.declared.last.Last.{Last}
 use Rattle.schedules.specs.Run.{run_of}
-
--- words, each with a space before it
-abbrev pub spaced : List (List ℕ) → List ℕ
-spaced words = flat_map (λ word. 32 ∷ word) words
-
--- numbers, each with a space before it
-abbrev pub numbers : List ℕ → List ℕ
-numbers ns = flat_map (λ n. 32 ∷ decimal n) ns
-
--- two lower-case digits a byte
-abbrev pub hex : List ℕ → List ℕ
-hex bytes = flat_map (λ b. digit_glyph false (b / 16) ∷ digit_glyph false (b % 16) ∷ []) bytes
-
--- a key or a value; an empty one is `-`
-abbrev pub show_bytes : List ℕ → List ℕ
-show_bytes [] = codes "-"
-show_bytes (b ∷ bs) = hex (b ∷ bs)
 
 -- the value that `cas` expects, or `none`
 abbrev pub show_old : Option (List ℕ) → List ℕ
@@ -90,13 +75,6 @@ pair_text client number = decimal client ++ codes "." ++ decimal number
 abbrev pub show_batch : Batch → List ℕ
 show_batch [] = codes "-"
 show_batch (r ∷ rs) = join_by (λ q. pair_text q.client q.number) (codes ",") (r ∷ rs)
-
--- a reply as text
-abbrev pub show_reply : Reply → List ℕ
-show_reply Reply.Done = codes "ok"
-show_reply (Reply.Value value) = codes "value:" ++ show_bytes value
-show_reply Reply.NoKey = codes "none"
-show_reply Reply.NoRoom = codes "full"
 
 -- the reply, if there is one
 abbrev pub reply_text : Option Reply → List ℕ

@@ -6,7 +6,6 @@ pub mod line;
 pub mod read_line;
 pub mod schedule;
 pub mod show_line;
-pub mod show_parts;
 pub mod show_step;
 pub mod summary;
 pub mod text;

@@ -5,17 +5,18 @@ ghost use Rattle.std.specs.List.{list_all};
 ghost use Rattle.std.specs.Int.{is_in_range};
 ghost use Rattle.jp_types.specs.Words.{is_empty};
 ghost use Rattle.jp_types.specs.Reading.{Reads};
-ghost use Rattle.schedules.specs.Schedule.{mode, replica, head_of, request_of, deliver_of, end_of, line_by_words, first_by_words, as_text};
-ghost use Rattle.schedules.specs.Reading.{text_words, lone_replica, line_of_life, line_of_retransmitter, line_of_stage, line_to_lane, line_of_text};
+ghost use Rattle.text_lines.specs.Lines.{as_text};
+ghost use Rattle.schedules.specs.Schedule.{replica, head_of, request_of, deliver_of, end_of, line_by_words, first_by_words};
+ghost use Rattle.schedules.specs.Reading.{lone_replica, line_of_life, line_of_retransmitter, line_of_stage, line_to_lane, line_of_text};
 
 use crate::line::{Head, Line};
 use jp_types::cause::Cause;
 use jp_types::command::Request;
 use jp_types::message::ReplicaId;
-use jp_types::mode::Mode;
 use jp_types::read_command::{LineFault, command_named};
-use jp_types::words::{number, words_of};
+use jp_types::words::number;
 use std::alloc::Global;
+use text_lines::lines::{mode, text_words};
 
 /// A request's number is at most this.
 const NUMBER_LIMIT: u64 = 281474976710656;
@@ -24,53 +25,6 @@ const NUMBER_LIMIT: u64 = 281474976710656;
 const MESSAGE_LIMIT: u64 = 4294967295;
 
 // ---- Operands
-
-fn has_bytes(word: &[u8]) -> bool
-    ensures { result ≡ not (is_empty word.now) }
-{
-    match word {
-        [] => false,
-        [_, ..] => true,
-    }
-}
-
-fn is_spaced(words: &[&[u8]]) -> bool
-    ensures { result ≡ list_all (λ word. not (is_empty word.now)) words.now }
-{
-    words.iter().all(|word| has_bytes(word))
-}
-
-fn is_printable(text: &[u8]) -> bool
-    ensures { result ≡ list_all (λ c. is_in_range 32 126 c) text.now }
-{
-    text.iter().all(|c| 32 <= *c && *c <= 126)
-}
-
-/// The words of a line, if it is well formed as text; `ended` tells whether a line feed ends it.
-#[tactic(auto, using(crate::proofs::Words::spaced_words, std::proofs::lemmas::Grind::common_steps))]
-pub(crate) fn text_words(alloc: Global, text: &[u8], ended: bool) -> Result<Vec<&[u8]>, LineFault>
-    ensures ok { IfOk result (λ words. text_words (record { text = text.now; ended = ended }) ≡ Ok (map (λ word. word.now) words.items)) }
-    ensures err { IfErr result (λ fault. Reads (Err fault) (text_words (record { text = text.now; ended = ended }))) }
-{
-    let words = words_of(alloc, text)?;
-    if ended && is_printable(text) && is_spaced(&words) {
-        Ok(words)
-    } else {
-        Err(LineFault::Cause(Cause::Text))
-    }
-}
-
-fn mode(word: &[u8]) -> Result<Mode, Cause>
-    ensures { result ≡ mode word.now }
-{
-    if word == b"viewss".as_slice() {
-        Ok(Mode::ViewSs)
-    } else if word == b"epochss".as_slice() {
-        Ok(Mode::EpochSs)
-    } else {
-        Err(Cause::BadMode)
-    }
-}
 
 fn replica(n: u8, word: &[u8]) -> Result<ReplicaId, Cause>
     ensures { result ≡ replica n word.now }
@@ -258,7 +212,7 @@ fn first_by_words(words: &[&[u8]]) -> Result<Head, Cause>
 }
 
 /// Reads the first line of a schedule; `ended` tells whether a line feed ends it.
-#[tactic(auto, using(crate::proofs::Words::from_words))]
+#[tactic(auto, using(text_lines::proofs::Words::from_words))]
 pub(crate) fn read_head(alloc: Global, text: &[u8], ended: bool) -> Result<Head, LineFault>
     ensures { Reads result (as_text (record { text = text.now; ended = ended }) first_by_words) }
 {
@@ -267,7 +221,7 @@ pub(crate) fn read_head(alloc: Global, text: &[u8], ended: bool) -> Result<Head,
 }
 
 /// Reads a line after the first, among `n` replicas.
-#[tactic(auto, using(crate::proofs::Words::from_words))]
+#[tactic(auto, using(text_lines::proofs::Words::from_words))]
 pub(crate) fn read_after(alloc: Global, n: u8, text: &[u8], ended: bool) -> Result<Line, LineFault>
     ensures { Reads result (as_text (record { text = text.now; ended = ended }) (line_by_words n)) }
 {

@@ -1,22 +1,23 @@
 //! Schedules, and the bytes that spell them.
 
 ghost use Rattle.std.specs.Prelude.{◌≡◌, ◌↔◌, ◌≤◌, ◌<◌, ◌+◌, ◌-◌, ◌^◌, ℕ, List, [], length, true, Some, None, Ok, Err, IfOk, IfErr, IfSome, OnOk, ◌≢◌, false};
-ghost use Rattle.std.specs.List.{position, position_or_len};
 ghost use Rattle.jp_types.specs.declared.cause.Cause.{Cause};
 ghost use Rattle.jp_types.specs.Reading.{Reads};
 ghost use Rattle.schedules.specs.declared.line.Line.{Line};
 ghost use Rattle.schedules.specs.declared.schedule.ScheduleFault.TheVariants as fault;
-ghost use Rattle.schedules.specs.Schedule.{is_end, lines_of, as_text, line_by_words, first_by_words, after_end, rest_of, schedule_of, read_schedule, has_too_many_lines};
+ghost use Rattle.text_lines.specs.Lines.{lines_of, as_text, first_raw, behind_first};
+ghost use Rattle.schedules.specs.Schedule.{is_end, line_by_words, first_by_words, after_end, rest_of, schedule_of, read_schedule, has_too_many_lines};
 ghost use Rattle.schedules.specs.Fitting.{IsFit};
-ghost use Rattle.schedules.specs.Reading.{ReadsLines, fault_at, is_feed, first_raw, behind_first, head_at, line_at, with_lines};
+ghost use Rattle.schedules.specs.Reading.{ReadsLines, fault_at, head_at, line_at, with_lines};
 
 use crate::line::{Head, Line};
-use crate::read_line::{read_after, read_head, text_words};
+use crate::read_line::{read_after, read_head};
 use jp_types::cause::Cause;
 use jp_types::listed::Listed;
 use jp_types::memory::NoMemory;
 use jp_types::read_command::LineFault;
 use std::alloc::Global;
+use text_lines::lines::{behind_first, first_len, text_words};
 
 /// A schedule: the constants of its first line, and the lines after it.
 #[derive(Debug, Drop)]
@@ -68,39 +69,8 @@ fn is_end(line: &Line) -> bool
 
 // ---- Lines of an input
 
-fn first_feed(input: &[u8]) -> Option<usize>
-    ensures { result ≡ position is_feed input.now }
-{
-    input.iter().position(|c| *c == b'\n')
-}
-
-// How many bytes stand before the first line feed.
-#[tactic(auto, using(crate::proofs::Lines::not_found))]
-fn first_len(input: &[u8]) -> usize
-    ensures value { result ≡ position_or_len is_feed input.now }
-    ensures bound { result ≤ length input.now }
-{
-    match first_feed(input) {
-        Some(at) => at,
-        None => input.len(),
-    }
-}
-
-// What stands behind the first line.
-fn behind_first(input: &[u8]) -> &[u8]
-    ensures value { result.now ≡ behind_first input.now }
-    ensures shorter { 0 < length input.now → length result.now < length input.now }
-{
-    let front = first_len(input);
-    if front < input.len() {
-        &input[front + 1..]
-    } else {
-        &input[front..]
-    }
-}
-
 // Whether there are too many lines; a last piece without a line feed counts as one.
-#[tactic(auto, using(crate::proofs::Lines::lines_more))]
+#[tactic(auto, using(text_lines::proofs::Feeds::lines_more))]
 fn has_too_many_lines(input: &[u8]) -> bool
     ensures { result ≡ has_too_many_lines input.now }
 {
@@ -144,7 +114,7 @@ fn line_at(alloc: Global, n: u8, line: u64, input: &[u8]) -> Result<Line, Schedu
 }
 
 // What is told of a line behind `end`.
-#[tactic(auto, using(crate::proofs::Words::from_words))]
+#[tactic(auto, using(text_lines::proofs::Words::from_words))]
 fn fault_behind_end(alloc: Global, input: &[u8]) -> LineFault
     ensures { Reads {A = List Line} (Err result) (as_text (first_raw input.now) (λ words. Err Cause.AfterEnd)) }
 {

@@ -7,17 +7,16 @@ ghost use Rattle.schedules.specs.Text.{
   show_old as old_text,
   show_mode as mode_text,
   show_word as word_text,
-  show_bytes as bytes_text,
-  spaced,
 };
+ghost use Rattle.text_lines.specs.Texts.{show_bytes as bytes_text, spaced};
 
 use crate::line::{Head, Line, Word};
-use crate::show_parts::{push_named, push_number_at, push_numbers, push_text, show_bytes};
 use jp_types::command::{Command, Request};
 use jp_types::memory::NoMemory;
 use jp_types::message::ReplicaId;
 use jp_types::mode::Mode;
 use jp_types::octets::Octets;
+use text_lines::texts::{push_named, push_number_at, push_numbers, push_text, show_bytes};
 
 /// Appends a line as it stands in the schedule, without its line feed. After an `Err`, `out` may end in a part of it.
 pub fn show_line(line: &Line, out: &mut Vec<u8>) -> Result<(), NoMemory>

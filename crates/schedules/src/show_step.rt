@@ -5,7 +5,6 @@ ghost use Rattle.schedules.specs.Text.{
   show_step as step_text,
   show_batch as batch_text,
   show_outcome as outcome_text,
-  show_reply as reply_word,
   reply_text,
   kind_text,
   kind_word,
@@ -13,15 +12,13 @@ ghost use Rattle.schedules.specs.Text.{
   show_next as next_text,
 };
 
-use crate::show_parts::{
-    push_decimal, push_named, push_number_at, push_pair, push_text, show_bytes,
-};
 use jp_types::batch::Batch;
 use jp_types::command::{Reply, Request};
 use jp_types::memory::NoMemory;
 use jp_types::message::{Instance, ReplicaId, View};
 use kv_service::outcome::{Kind, Outcome, Outcomes};
 use paxos_world::step::Step;
+use text_lines::texts::{push_decimal, push_named, push_number_at, push_text, show_reply};
 
 /// Appends a step. After an `Err`, `out` may end in a part of it.
 pub fn show_step(step: &Step, out: &mut Vec<u8>) -> Result<(), NoMemory>
@@ -149,6 +146,15 @@ fn show_next(next: Option<Instance>, out: &mut Vec<u8>) -> Result<(), NoMemory>
     }
 }
 
+// Appends a client and the number of its request.
+fn push_pair(client: u64, number: u64, out: &mut Vec<u8>) -> Result<(), NoMemory>
+    ensures { OnOk result (out.new.items ≡ out.old.items ++ pair_text client number) }
+{
+    push_decimal(client, out)?;
+    out.push(b'.')?;
+    push_decimal(number, out)
+}
+
 /// Appends outcomes, each with a space before it.
 fn push_outcomes(outcomes: &[Outcome], out: &mut Vec<u8>) -> Result<(), NoMemory>
     ensures { OnOk result (out.new.items ≡ out.old.items ++ flat_map (λ o. 32 ∷ outcome_text o) outcomes.now) }
@@ -190,20 +196,6 @@ fn push_reply(reply: Option<&Reply>, out: &mut Vec<u8>) -> Result<(), NoMemory>
     match reply {
         Some(reply) => show_reply(reply, out),
         None => Ok(()),
-    }
-}
-
-fn show_reply(reply: &Reply, out: &mut Vec<u8>) -> Result<(), NoMemory>
-    ensures { OnOk result (out.new.items ≡ out.old.items ++ reply_word reply.now) }
-{
-    match reply {
-        Reply::Done => push_text(b"ok", out),
-        Reply::Value(value) => {
-            push_text(b"value:", out)?;
-            show_bytes(value.bytes(), out)
-        }
-        Reply::NoKey => push_text(b"none", out),
-        Reply::NoRoom => push_text(b"full", out),
     }
 }
 

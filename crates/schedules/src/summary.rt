@@ -1,7 +1,8 @@
 //! The summary of a run: its sizes, how often each answer word came, and what each replica ends with.
 
 ghost use Rattle.std.specs.Prelude.{◌≡◌, ◌-◌, [], ◌∷◌, ◌++◌, length, IfOk, OnOk, option_copied, codes, count_by};
-ghost use Rattle.schedules.specs.Text.{numbers, spaced, show_phase as phase_text};
+ghost use Rattle.schedules.specs.Text.{show_phase as phase_text};
+ghost use Rattle.text_lines.specs.Texts.{numbers, spaced};
 ghost use Rattle.schedules.specs.Generator.{
   is_word,
   word_count,
@@ -15,13 +16,13 @@ ghost use Rattle.schedules.specs.Generator.{
 
 use crate::event::{Event, Run};
 use crate::line::Word;
-use crate::show_parts::{push_byte, push_named, push_numbers, push_text, push_wide_decimal};
 use crate::text::show_phase;
 use jp_types::memory::NoMemory;
 use jp_types::octets::Octets;
 use paxos_world::last::Last;
 use paxos_world::step::Step;
 use std::alloc::Global;
+use text_lines::texts::{push_byte, push_named, push_numbers, push_text, push_wide_decimal};
 
 /// The summary of the run of a schedule that a seed drew. The words and messages are those of all its events; the steps
 /// are its lines but the first and the last.

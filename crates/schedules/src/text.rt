@@ -8,13 +8,11 @@ ghost use Rattle.schedules.specs.Text.{
   show_last as last_text,
   show_replicas,
   show_phase as phase_text,
-  show_bytes as bytes_text,
-  hex,
 };
+ghost use Rattle.text_lines.specs.Texts.{show_bytes as bytes_text, hex};
 
 use crate::event::{Event, Run};
 use crate::show_line::{show_line, show_word};
-use crate::show_parts::{push_hex, push_named, push_numbers, push_text, show_bytes};
 use crate::show_step::show_step;
 use jp_types::memory::NoMemory;
 use jp_types::message::ReplicaId;
@@ -23,6 +21,7 @@ use jp_types::octets::Octets;
 use paxos_world::last::Last;
 use paxos_world::step::Step;
 use std::alloc::Global;
+use text_lines::texts::{push_hex, push_named, push_numbers, push_text, show_bytes};
 
 /// The text of a run: its events, and then each replica.
 #[tactic(auto, unfolding(crate::specs::Text::show))]

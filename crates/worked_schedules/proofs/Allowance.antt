@@ -19,7 +19,7 @@ use Rattle.paxos_world.specs.World.{World, Deed, Take, Enter, Open, Promise, Pre
 use Rattle.kv_service.specs.Parts.{part_size}
 use Rattle.jp_types.specs.Reports.{entry_by}
 use Rattle.schedules.specs.declared.schedule.Schedule.{Schedule}
-use Rattle.schedules.specs.Schedule.{Bad}
+use Rattle.text_lines.specs.Lines.{Bad}
 use Rattle.schedules.specs.Run.{moves_of_run}
 use Rattle.worked_schedules.proofs.Codes.{entry_code, same_message, same_batch, same_life, same_next}
 use Rattle.worked_schedules.proofs.Worlds.{setup_of_run}

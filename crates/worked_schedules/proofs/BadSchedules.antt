@@ -3,7 +3,8 @@ use Rattle.std.specs.Prelude.{◌≡◌, ℕ, List, [], ◌∷◌, ◌++◌, Res
 use Rattle.jp_types.specs.declared.cause.Cause.{Cause}
 use Rattle.jp_types.specs.declared.cause.Cause.TheVariants.{NoCluster, Unknown, Operands, Number, BadMode, Bytes, BadCommand, NoEnd, AfterEnd, Text}
 use Rattle.schedules.specs.declared.schedule.Schedule.{Schedule}
-use Rattle.schedules.specs.Schedule.{Bad, read_schedule}
+use Rattle.text_lines.specs.Lines.{Bad}
+use Rattle.schedules.specs.Schedule.{read_schedule}
 use Rattle.worked_schedules.proofs.Examples.{joined}
 
 -- no schedule, but a wrong line

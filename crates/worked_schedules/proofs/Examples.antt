@@ -10,7 +10,8 @@ use Rattle.paxos_world.specs.Retransmitting.{claim}
 use Rattle.paxos_world.specs.CatchingUp.{replied_batches}
 use Rattle.paxos_world.specs.Settling.{adoption_end}
 use Rattle.paxos_world.specs.Turn.{turn, opening, retransmit}
-use Rattle.schedules.specs.Schedule.{Bad, read_schedule}
+use Rattle.text_lines.specs.Lines.{Bad}
+use Rattle.schedules.specs.Schedule.{read_schedule}
 use Rattle.schedules.specs.Run.{event, first_event, run_of, moves_of_run}
 use Rattle.schedules.specs.Text.{show, text_of}
 

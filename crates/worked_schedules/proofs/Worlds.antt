@@ -4,7 +4,7 @@ use Rattle.kv_service.specs.StateBytes.{state_bytes}
 use Rattle.paxos_world.specs.Setup.{Setup}
 use Rattle.paxos_world.specs.World.{World, Sent, Move, after, opening}
 use Rattle.schedules.specs.declared.schedule.Schedule.{Schedule}
-use Rattle.schedules.specs.Schedule.{Bad}
+use Rattle.text_lines.specs.Lines.{Bad}
 use Rattle.schedules.specs.Run.{first_event, cluster_after, moves_of_run}
 use Rattle.schedules.specs.Cluster.{Cluster}
 use Rattle.worked_schedules.proofs.Codes.{message_code}

@@ -3,7 +3,7 @@
 use super::tests::told;
 use super::*;
 use jp_types::memory::NoMemory;
-use schedules::show_parts::push_text;
+use text_lines::texts::push_text;
 use std::test::Fail;
 
 /// Appends the first lines of nine replicas, up to the Prepared leader: 652 bytes of frames.

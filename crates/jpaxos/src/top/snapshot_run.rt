@@ -5,7 +5,7 @@ ghost use Rattle.std.specs.Prelude.{◌≤◌};
 use super::tests::{schedule_of, told};
 use super::*;
 use jp_types::memory::NoMemory;
-use schedules::show_parts::push_text;
+use text_lines::texts::push_text;
 use std::test::Fail;
 
 /// How many Puts are decided.

@@ -8,7 +8,7 @@ use jp_types::cause::Cause;
 use jp_types::sink::{CountingSink, MemorySink};
 use jp_types::source::{FailingSource, MemorySource};
 use jp_types::words::number;
-use schedules::show_parts::push_text;
+use text_lines::texts::push_text;
 use std::test::Fail;
 
 /// The schedule of a run: each line of its text up to its answer, with `end` last.

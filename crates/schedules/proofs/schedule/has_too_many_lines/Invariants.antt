@@ -1,5 +1,5 @@
 use Rattle.std.proofs.Common.{◌≡◌, ◌+◌, ◌≤◌, length}
-use Rattle.schedules.specs.Schedule.{lines_of}
+use Rattle.text_lines.specs.Lines.{lines_of}
 use Rattle.schedules.proofs.schedule.has_too_many_lines.Given as goal
 
 abbrev pub invariant-lines : goal.invariant-lines

@@ -1,5 +1,6 @@
 use Rattle.std.proofs.Common.{◌≡◌, ◌+◌, ◌≤◌, length}
-use Rattle.schedules.specs.Schedule.{lines_of, rest_of}
+use Rattle.text_lines.specs.Lines.{lines_of}
+use Rattle.schedules.specs.Schedule.{rest_of}
 use Rattle.schedules.specs.Reading.{with_lines}
 use Rattle.schedules.proofs.schedule.read_rest.Given as goal
 

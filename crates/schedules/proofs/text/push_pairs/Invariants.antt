@@ -1,5 +1,5 @@
 use Rattle.std.proofs.Common.{◌≡◌, ◌++◌, ◌∷◌, ℕ, List, drop, codes, flat_map}
-use Rattle.schedules.specs.Text.{hex, show_bytes}
+use Rattle.text_lines.specs.Texts.{hex, show_bytes}
 use Rattle.schedules.proofs.text.push_pairs.Given as goal
 
 abbrev pub pairs_text : List (List ℕ × List ℕ) → List ℕ

@@ -1,0 +1,1 @@
+pub mod Lines_of_replicas

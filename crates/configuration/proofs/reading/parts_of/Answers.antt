@@ -1,0 +1,11 @@
+use Rattle.std.proofs.Common.{◌==◌, rules}
+use borrow.Author.Tests.{tests}
+use Rattle.std.proofs.lemmas.Iterator.Consumers.{map_from_collect}
+use Rattle.std.proofs.lemmas.Iterator.Splits.{YieldsList-from_slice_split}
+use Rattle.configuration.proofs.reading.parts_of.Goals as goal
+
+pub returns : goal.returns
+returns c =
+    rw c.in_ok-collect.was at
+    (map_from_collect c.collect.result c.collect.ensures.ran
+    (YieldsList-from_slice_split _ (λ c. c == 46) c.args.word.now c.split.ensures.rest c.split.ensures.done c.split.ensures.closure (λ x r q k. search (rules, tests))))
