@@ -1,13 +1,13 @@
 -- A reader that follows a stream follows it with a piece more, and there is one reader that follows a stream.
-use Rattle.std.proofs.Common.{◌≡◌, ◌≢◌, ℕ, ◌+◌, List, [], ◌∷◌, ◌++◌, length, take, drop, refl, sym, ◌∙◌, ap, subst, Option, Some, None, Result, Ok, Err, append_assoc}
+use Rattle.std.proofs.Common.{◌≡◌, ℕ, ◌+◌, List, [], ◌∷◌, ◌++◌, drop, refl, sym, ◌∙◌, ap, subst, Option, Some, None, Ok, Err, append_assoc}
 use Rattle.std.proofs.lemmas.List.{append-nil, drop-drop}
 use Rattle.frame_fields.specs.Faults.{Fault}
 use Rattle.frame_fields.specs.Telling.{fault_of}
 use Rattle.frame_fields.specs.declared.fault.FrameFault.{FrameFault}
 use Rattle.frame_fields.specs.declared.fault.FrameFault.TheVariants as told_fault
-use Rattle.frame_stream.specs.Frames.{Rules, Next, Waits, Faults, Whole, behind, next_frame, Passes, IsUnfinished, Reads}
+use Rattle.frame_stream.specs.Frames.{Rules, Whole, behind, next_frame, Passes}
 use Rattle.frame_stream.specs.Following.{Progress, IsAt, HasRead, HasTaken, StopsAt, Keeps, Follows, HasFollowed, HasBegun}
-use Rattle.frame_stream.proofs.Passing.{passes-append, passes-trans, passes-one, faults-append, one_passing}
+use Rattle.frame_stream.proofs.Passing.{passes-append, passes-trans, passes-one, faults-append}
 
 -- no frame is read
 pub read_none : {Item : Type 0} (rules : Rules Item) (at : ℕ) (bytes : List ℕ) (before : List Item) → HasRead rules at bytes before before at bytes

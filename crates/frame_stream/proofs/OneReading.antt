@@ -1,12 +1,12 @@
 -- There is one way to read a stream, whatever the pieces in which it comes.
-use Rattle.std.proofs.Common.{◌≡◌, ℕ, List, [], refl, sym, ◌∙◌, ap, subst, Option, Some, None}
+use Rattle.std.proofs.Common.{◌≡◌, ℕ, List, refl, sym, ◌∙◌, ap, Option, Some, None}
 use Rattle.frame_fields.specs.Faults.{Fault}
 use Rattle.frame_fields.specs.Telling.{fault_of}
 use Rattle.frame_fields.specs.declared.fault.FrameFault.{FrameFault}
 use Rattle.frame_fields.specs.declared.fault.FrameFault.TheVariants as told_fault
 use Rattle.frame_stream.specs.Frames.{Rules, Next, Waits, Faults, next_frame, Passes, IsUnfinished, Reads}
-use Rattle.frame_stream.specs.Following.{Progress, StopsAt, Keeps, Follows}
-use Rattle.frame_stream.specs.Laws.{OneReading, GivesWhatIsRead, CuttingChangesNothing, IsSame}
+use Rattle.frame_stream.specs.Following.{StopsAt, Keeps}
+use Rattle.frame_stream.specs.Laws.{OneReading, GivesWhatIsRead, CuttingChangesNothing}
 use Rattle.frame_stream.proofs.Passing.{one_passing}
 
 -- the answer that tells a fault of the bytes

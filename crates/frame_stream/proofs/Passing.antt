@@ -1,10 +1,10 @@
 -- Whole frames at the front of bytes stay there when more bytes follow, and there is one way to read them.
-use Rattle.std.proofs.Common.{◌≡◌, ℕ, ◌+◌, ◌-◌, ◌<◌, ◌≤◌, Bool, true, false, not, nat_lt, ◌==◌, if◌then◌else◌, List, [], ◌∷◌, ◌++◌, length, take, drop, slice_index, refl, sym, ◌∙◌, ap, subst, ◌⊎◌, inl, inr, Result, Ok, Err, append_assoc, length-append, arith}
+use Rattle.std.proofs.Common.{◌≡◌, ℕ, ◌+◌, ◌-◌, ◌≤◌, Bool, true, false, nat_lt, ◌==◌, List, [], ◌∷◌, ◌++◌, length, take, drop, slice_index, refl, sym, ◌∙◌, ap, subst, ◌⊎◌, inl, inr, Result, Ok, Err, length-append, arith}
 use Rattle.std.proofs.lemmas.Bool.{le-ltb, ltb-false, eqb-false}
-use Rattle.std.proofs.lemmas.List.{take-append-le, drop-append-le, length-drop, get_or_append_left, append-nil}
+use Rattle.std.proofs.lemmas.List.{take-append-le, drop-append-le, length-drop, get_or_append_left}
 use Rattle.std.specs.Int.{from_be_bytes, w32}
 use Rattle.std.specs.List.{slice_range}
-use Rattle.frame_fields.specs.Faults.{Fault, BadKind, BadLength, TooLong}
+use Rattle.frame_fields.specs.Faults.{Fault}
 use Rattle.frame_stream.specs.Frames.{Rules, Next, Waits, Faults, Whole, longest, behind, spelt, frame_of_kind, frame_of_length, next_frame, Passes, IsUnfinished}
 
 -- a part within the front of bytes is the same with more bytes behind them

@@ -1,4 +1,4 @@
-use Rattle.std.proofs.Common.{◌≡◌, Option, None, Some, Result, Ok, Err, ap, subst}
+use Rattle.std.proofs.Common.{◌≡◌, None, Some, Result, Err, ap, subst}
 use Rattle.frame_fields.specs.declared.fault.FrameFault.{FrameFault}
 use Rattle.frame_stream.specs.Following.{Progress}
 use Rattle.frame_stream.proofs.Feeding.{fed_ok, fed_err, fed_stopped, begun_ok, begun_err, begun_stopped}

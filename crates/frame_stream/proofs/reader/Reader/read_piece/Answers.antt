@@ -1,4 +1,4 @@
-use Rattle.std.proofs.Common.{◌≡◌, drop, subst}
+use Rattle.std.proofs.Common.{drop, subst}
 use Rattle.std.proofs.lemmas.Result.{err_from_is_err_and}
 use Rattle.frame_stream.specs.Following.{Progress, HasRead}
 use Rattle.frame_stream.proofs.reader.Reader.read_piece.Goals as goal
