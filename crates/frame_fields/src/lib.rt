@@ -5,3 +5,5 @@ pub mod fault;
 pub mod fields;
 pub mod laws;
 pub mod spelling;
+#[cfg(test)]
+mod tests;

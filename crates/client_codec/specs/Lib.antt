@@ -1,0 +1,4 @@
+pub mod Frames
+pub mod Spelling
+pub mod Limits
+pub mod Laws
