@@ -1,0 +1,8 @@
+mod Examples
+pub mod Joins
+pub mod Loops
+pub mod Framing
+pub mod MessageSpellings
+pub mod KindSpellings
+pub mod FrameSpellings
+pub mod StreamSpellings
