@@ -77,4 +77,4 @@ module _ {T : Type 0} where
 
   pub one_from : (p : PassSeen T) → Agrees p → IsOfOne p
   one_from p h one = IfSome_then p.taken h (λ taken a.
-    ap items_in (all_of_zero taken (λ q le. first_nil (from_producer q taken) (from_producer q a.0) (sym (from_producer-append q taken a.0) ∙ a.1.others q (let e = one in omega arith)))))
+      ap items_in (all_of_zero taken (λ q le. first_nil (from_producer q taken) (from_producer q a.0) (sym (from_producer-append q taken a.0) ∙ a.1.others q (let e = one in omega arith)))))

@@ -28,9 +28,6 @@ count_running-new T zero = refl
 count_running-new T (suc n) = ap suc (count_running-new T n)
 
 module _ {T : Type 0} where
-
-
-
   pub all_items-append : (a b : List (Element T)) → all_items (a ++ b) ≡ all_items a ++ all_items b
   all_items-append a b = ap items_in (map-append (λ (e : Element T). e.1) a b) ∙ items_in-append (map (λ (e : Element T). e.1) a) (map (λ (e : Element T). e.1) b)
 
@@ -70,9 +67,9 @@ module _ {T : Type 0} where
       let same : ends n (a ++ e ∷ []) ≡ ends n a = ends-other n a e (λ h. absurd (omega arith)) in
       by_case (ends n a) same refl (counts_one_less n a e less none end))
       (below_or_last e.0 n lt) where
-    by_case : (b : Bool) → ends n (a ++ e ∷ []) ≡ b → ends n a ≡ b → suc (count_running n (a ++ e ∷ [])) ≡ count_running n a → suc (count_running (suc n) (a ++ e ∷ [])) ≡ count_running (suc n) a
-    by_case true new old h = ap suc (one_more n (a ++ e ∷ []) true new) ∙ h ∙ sym (one_more n a true old)
-    by_case false new old h = ap suc (one_more n (a ++ e ∷ []) false new) ∙ ap suc h ∙ sym (one_more n a false old)
+        by_case : (b : Bool) → ends n (a ++ e ∷ []) ≡ b → ends n a ≡ b → suc (count_running n (a ++ e ∷ [])) ≡ count_running n a → suc (count_running (suc n) (a ++ e ∷ [])) ≡ count_running (suc n) a
+        by_case true new old h = ap suc (one_more n (a ++ e ∷ []) true new) ∙ h ∙ sym (one_more n a true old)
+        by_case false new old h = ap suc (one_more n (a ++ e ∷ []) false new) ∙ ap suc h ∙ sym (one_more n a false old)
 
   -- how many are running after one more element
   pub some_running : (n : ℕ) (a : List (Element T)) (e : Element T) → e.0 < n → ends e.0 a ≡ false → ends_in (e.1 ∷ []) ≡ true → 1 ≤ count_running n a

@@ -23,13 +23,21 @@ fn a_lane_of_two(rt: HostRuntime) -> Result<(), Fail> {
     assert_eq!(rt; inlet.put(&rt, 3), Ok(()));
     assert_eq!(rt; outlet.take(&rt), Some((0, Taken::Item(2))));
     let _ = inlet.pass();
-    let mut pass = inlet.end(&rt);
+    let _ = inlet.end(&rt);
     assert_eq!(rt; outlet.take(&rt), Some((0, Taken::Item(3))));
     assert_eq!(rt; outlet.is_finished(), false);
     assert_eq!(rt; outlet.take_waiting(&rt), Some((0, Taken::End)));
     assert_eq!(rt; outlet.is_finished(), true);
     assert_eq!(rt; outlet.take(&rt), None);
     let _ = outlet.pass();
+    Ok(())
+}
+
+#[test]
+fn passes_join(rt: HostRuntime) -> Result<(), Fail> {
+    let (mut inlets, mut outlet) = lane::<u8>(rt.alloc(), 1, 1)?;
+    let mut pass = inlets.remove(0).end(&rt);
+    assert_eq!(rt; outlet.take(&rt), Some((0, Taken::End)));
     pass.join(outlet.finish());
     Ok(())
 }
