@@ -55,7 +55,7 @@ impl<T: Drop> Outlet<T> {
         ensures lane { self.new.lane ≡ self.old.lane }
     {
         let element = self.pass.pop(rt)?;
-        self.running = left_of(self.running, &element.1);
+        self.running = running_after(self.running, &element.1);
         self.bells.room.ring();
         Some(element)
     }
@@ -105,7 +105,7 @@ impl<T: Drop> Outlet<T> {
 }
 
 // How many producers are running after one of them put this.
-fn left_of<T>(running: u8, put: &Taken<T>) -> u8
+fn running_after<T>(running: u8, put: &Taken<T>) -> u8
     requires { ends_in (put.now ∷ []) ≡ true → 1 ≤ running }
     ensures { result ≡ (if ends_in (put.now ∷ []) then running - 1 else running) }
 {
