@@ -3,8 +3,10 @@
 
 pub mod arrivals;
 pub mod came;
+pub mod door;
 pub mod link;
 pub mod peer;
 pub mod received;
 pub mod scripted;
 pub mod steady;
+pub mod tcp;

@@ -1,7 +1,8 @@
 //! A byte stream between two processes, both ways.
 
-ghost use Rattle.std.specs.Prelude.{◌≡◌, List, ℕ, Option, ◌<◌, length, IfOk};
+ghost use Rattle.std.specs.Prelude.{◌≡◌, List, ℕ, Option, ◌<◌, length, take, IfOk, OnOk, OnErr};
 ghost use Rattle.std.specs.Io.{WritesAtMost};
+ghost use Rattle.std.specs.Io.KnownBytes.{Appends};
 ghost use Rattle.jp_types.specs.Faults.{HasCause};
 ghost use Rattle.links.specs.Receiving.{FitsRoom, SendAppends, ReceiveConsumes, CountsQuiet, CountsEnded, CountsGiven};
 
@@ -50,4 +51,21 @@ pub trait Link: Send + Drop {
         ensures quiets { CountsQuiet (quiets self.old) (quiets self.new) result }
         ensures endings { CountsEnded (endings self.old) (endings self.new) result }
         ensures given { CountsGiven (given self.old) (given self.new) result };
+}
+
+/// Sends all of a text. After a failure a beginning of it was sent.
+pub fn send_all<L: Link>(link: &mut L, text: &[u8]) -> Result<(), Failed>
+    ensures ok { OnOk result (Appends (L.sent link.old) (L.sent link.new) text.now) }
+    ensures begun { OnErr result ((count : ℕ) × Appends (L.sent link.old) (L.sent link.new) (take count text.now)) }
+    ensures left { L.left link.new ≡ L.left link.old }
+    ensures cause { HasCause (L.faults link.old) (L.faults link.new) result }
+    ensures quiets { L.quiets link.new ≡ L.quiets link.old }
+    ensures endings { L.endings link.new ≡ L.endings link.old }
+    ensures given { L.given link.new ≡ L.given link.old }
+{
+    let mut done = 0;
+    'pieces: while done < text.len() {
+        done += link.send(&text[done..])?;
+    }
+    Ok(())
 }
