@@ -1,0 +1,4 @@
+pub mod Receiving
+pub mod Peers
+pub mod Scripts
+pub mod Adapters
