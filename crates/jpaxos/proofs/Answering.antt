@@ -19,6 +19,9 @@ use Rattle.cluster_laws.specs.Laws.{IsSchedule}
 use Rattle.cluster_laws.proofs.Chosen as chosen
 use Rattle.cluster_laws.proofs.ReadFit.{within, schedules_within}
 use Rattle.cluster_laws.proofs.Whole as whole
+use Rattle.due_laws.proofs.Handing as handing
+use Rattle.due_laws.proofs.Walking as walking
+use Rattle.due_laws.proofs.Whole as due
 use Rattle.request_laws.proofs.Asking as asking
 use Rattle.observed_laws.proofs.Whole.{observed}
 use Rattle.run_laws.specs.Laws as run_laws
@@ -75,6 +78,7 @@ headline s h =
       recovering_is_silent = whole.recovering_is_silent s states-read h;
       rejoins_exactly = record { met = whole.rejoins s states-read h; due = whole.rejoins_due s states-read h };
       turns_are_exact = exact_turns;
+      nothing_is_due = record { prepares = due.prepared_due s states-read h; learns = due.learn_due s states-read h; notes = walking.note_due; launches = due.launch_due s states-read h; hands_on = handing.hand_due s states-read h; serves = handing.serve_due s };
     }
 
 -- a schedule within its ranges is one whose run is that of the model

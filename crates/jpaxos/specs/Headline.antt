@@ -1,6 +1,7 @@
 -- What holds of the run of a schedule.
 use Rattle.schedules.specs.declared.schedule.Schedule.{Schedule}
 use Rattle.cluster_laws.specs.Laws as laws
+use Rattle.due_laws.specs.Laws as due
 use Rattle.request_laws.specs.Laws as requests
 use Rattle.step_laws.specs.Laws as turns
 
@@ -63,6 +64,15 @@ pub record TurnsAreExact : Type 0 where
   pub repeats : turns.RepeatsExactly
   pub repeats_only : turns.RepeatsOnly
 
+-- what may be done is done. After each line no life that runs could be Prepared and is not, each instance is known of which its notes show an acceptance by a majority, no batch waits where a launch may go, and a Protocol stage that took an item has nothing left to hand on, or its decision lane is full; a line of a Service stage executes or takes over what is due; and each turn notes what it took and launched
+pub record LeavesNothingDue (s : Schedule) : Type 0 where
+  pub prepares : due.PreparedDue s
+  pub learns : due.LearnDue s
+  pub notes : due.NoteDue
+  pub launches : due.LaunchDue s
+  pub hands_on : due.HandDue s
+  pub serves : due.ServeDue s
+
 -- what holds of the run of a schedule
 pub record Headline (s : Schedule) : Type 0 where
   pub world_run : IsWorldRun s
@@ -74,3 +84,4 @@ pub record Headline (s : Schedule) : Type 0 where
   pub recovering_is_silent : laws.RecoveringIsSilent s
   pub rejoins_exactly : RejoinsExactly s
   pub turns_are_exact : TurnsAreExact
+  pub nothing_is_due : LeavesNothingDue s

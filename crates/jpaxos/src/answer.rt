@@ -14,10 +14,10 @@ use jp_types::memory::NoMemory;
 use jp_types::octets::Octets;
 use jp_types::status::Status;
 use schedules::schedule::{Schedule, ScheduleFault, read_schedule};
-use text_lines::texts::{push_byte, push_named, push_text};
 use schedules::summary::summary;
 use schedules::text::show;
 use std::alloc::Global;
+use text_lines::texts::{push_byte, push_named, push_text};
 
 /// A status, and the text that is written with it.
 #[derive(Debug, Drop)]

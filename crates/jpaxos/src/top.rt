@@ -138,6 +138,7 @@ pub fn jpaxos_top<S: Source, K: Sink>(
     // The word `cluster` is answered as `run_cluster` answers.
     ensures cluster_status { IsCluster (map string_bytes words.now) → IsClusterStatus result }
     ensures cluster_told { IsTold result → IsCluster (map string_bytes words.now) → Answers (S.left source.old) (K.held sink.old) (K.held sink.new) result }
+    ensures cluster_observed { result ≡ Status.Done → IsCluster (map string_bytes words.now) → AnswersObserved (S.left source.old) (K.held sink.old) (K.held sink.new) }
     ensures cluster_end { IsTold result → result ≢ Status.TooLarge 1 → IsCluster (map string_bytes words.now) → IsAtEnd (S.left source.new) }
     ensures cluster_taken { IsCluster (map string_bytes words.now) → TakesAtMost (INPUT_LIMIT + 1) (S.left source.old) (S.left source.new) }
     ensures cluster_begun { result ≡ Status.WriteFault → IsCluster (map string_bytes words.now) → BeginsAnswer (S.left source.old) (K.held sink.old) (K.held sink.new) }

@@ -3,8 +3,8 @@
 use super::tests::told;
 use super::*;
 use jp_types::memory::NoMemory;
-use text_lines::texts::push_text;
 use std::test::Fail;
+use text_lines::texts::push_text;
 
 /// Appends the first lines of nine replicas, up to the Prepared leader: 652 bytes of frames.
 fn push_opening(input: &mut Vec<u8>) -> Result<(), NoMemory> {

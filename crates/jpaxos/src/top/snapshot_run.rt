@@ -5,8 +5,8 @@ ghost use Rattle.std.specs.Prelude.{◌≤◌};
 use super::tests::{schedule_of, told};
 use super::*;
 use jp_types::memory::NoMemory;
-use text_lines::texts::push_text;
 use std::test::Fail;
+use text_lines::texts::push_text;
 
 /// How many Puts are decided.
 const PUTS: u64 = 512;

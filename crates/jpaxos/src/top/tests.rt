@@ -8,8 +8,8 @@ use jp_types::cause::Cause;
 use jp_types::sink::{CountingSink, MemorySink};
 use jp_types::source::{FailingSource, MemorySource};
 use jp_types::words::number;
-use text_lines::texts::push_text;
 use std::test::Fail;
+use text_lines::texts::push_text;
 
 /// The schedule of a run: each line of its text up to its answer, with `end` last.
 pub fn schedule_of(alloc: Global, text: &[u8]) -> Result<Vec<u8>, Fail> {
