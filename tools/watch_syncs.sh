@@ -15,7 +15,7 @@ command -v strace >/dev/null 2>&1 || {
 }
 here=$(CDPATH='' cd -- "$(dirname -- "$0")/.." && pwd) || exit 1
 if [ $# -eq 0 ]; then
-    set -- "$here/crates/stable_store/out/stable_store-test"
+    set -- "$here/crates/stable_store/out/stable_store_tests"
 fi
 [ -x "$1" ] || {
     echo "watch_syncs: there is no program $1; run 'rt test' in crates/stable_store first" >&2
