@@ -6,9 +6,9 @@
 #   tools/watch_syncs.sh [PROGRAM ARGUMENT..]
 #
 # With no words it runs the tests of crates/stable_store over real files, which `rt test` there has built. Only files whose
-# names end in .cell are looked at. For each of them: after a write in place no other call on the file comes before a sync;
-# a file that was made has its folder synced, then its length set, then is synced itself; and at least one save is seen, which
-# is the eight bytes of a number, a sync, the byte of its gate, and a sync.
+# names end in .cell are looked at. A write in place, or a new length, has to be followed by a sync of the file before anything
+# else is written to it. At least one number has to be seen that is saved: its eight bytes, a sync, the byte of its gate, and a
+# sync. And at least one file that is made: a sync of its folder, its length, and a sync.
 command -v strace >/dev/null 2>&1 || {
     echo "watch_syncs: strace is missing (Debian: apt-get install strace), so nothing was watched" >&2
     exit 2
@@ -33,12 +33,11 @@ strace -f -y -qq -o calls -e trace=openat,open,pwrite64,write,fsync,fdatasync,ft
 }
 awk '
 function fail(why) { print "watch_syncs: " why ": " $0; failed = 1 }
-function name_of(text, parts) { return match(text, /<[^>]*>/) ? substr(text, RSTART + 1, RLENGTH - 2) : "" }
+function name_of(text) { return match(text, /<[^>]*>/) ? substr(text, RSTART + 1, RLENGTH - 2) : "" }
 { sub(/^[0-9]+ +/, "") }
 /= -1/ { next }
 /^open/ {
-    if ($0 ~ /O_DIRECTORY/) next
-    if (match($0, /= [0-9]+<[^>]*>$/)) { name = name_of(substr($0, RSTART)); if (name ~ /\.cell$/) { opened[name]++; step[name] = "" } }
+    if (match($0, /= [0-9]+<[^>]*>$/)) step[name_of(substr($0, RSTART))] = ""
     next
 }
 /^(fsync|fdatasync)\(/ {
@@ -46,30 +45,36 @@ function name_of(text, parts) { return match(text, /<[^>]*>/) ? substr(text, RST
     if (name ~ /\.cell$/) {
         if (unsynced[name]) step[name] = step[name] "s"
         unsynced[name] = 0
-        if (made[name]) { made[name] = 0; whole++ }
+        unlong[name] = 0
         if (step[name] ~ /8s1s$/) { saves++; step[name] = "" }
     } else folder = name
     next
 }
 /^ftruncate\(/ {
     name = name_of($0)
-    if (name ~ /\.cell$/) { if (unsynced[name]) fail("a length is set before a sync"); made[name] = 1 }
+    if (name !~ /\.cell$/) next
+    if (unsynced[name]) fail("a length is set before the sync of a write")
+    unlong[name] = 1
+    place = name
+    sub("/[^/]*$", "", place)
+    if (place == folder) made++
+    folder = ""
     next
 }
 /^pwrite64\(/ {
     name = name_of($0)
     if (name !~ /\.cell$/) next
     if (unsynced[name]) fail("a write comes before the sync of the one before")
-    if (made[name]) fail("a write comes before the sync of the length")
+    if (unlong[name]) fail("a write comes before the sync of the length")
     unsynced[name] = 1
     step[name] = step[name] $NF
     next
 }
 END {
     for (name in unsynced) if (unsynced[name]) { print "watch_syncs: a write of " name " was never synced"; failed = 1 }
-    for (name in made) if (made[name]) { print "watch_syncs: the length of " name " was never synced"; failed = 1 }
-    if (!saves) { print "watch_syncs: no save was seen"; failed = 1 }
-    if (!whole) { print "watch_syncs: no file was made up"; failed = 1 }
-    print "watch_syncs: " saves + 0 " saves, each with its writes and syncs in order"
+    for (name in unlong) if (unlong[name]) { print "watch_syncs: the length of " name " was never synced"; failed = 1 }
+    if (!saves) { print "watch_syncs: no number was seen that is saved"; failed = 1 }
+    if (!made) { print "watch_syncs: no file was seen that is made, after its folder was synced"; failed = 1 }
+    if (!failed) print "watch_syncs: " saves " numbers were saved and " made " files made, their writes and syncs in order"
     exit failed
 }' calls
