@@ -146,6 +146,8 @@ mod tests {
             me: me.min(2),
             mode,
             window: 8,
+            cluster: 1,
+            old: false,
         };
         let (life, acts) = start(alloc, config, stored)?;
         Ok((life.mark, life.view, acts.as_slice().len()))
