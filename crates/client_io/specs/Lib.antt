@@ -1,0 +1,9 @@
+pub mod Links
+pub mod Sessions
+pub mod Taking
+pub mod Hearing
+pub mod Turning
+pub mod Serving
+pub mod Doors
+pub mod Ends
+pub mod Attempts
