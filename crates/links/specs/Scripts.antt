@@ -1,5 +1,5 @@
 -- What contracts see of links and peers in memory, which follow a script.
-use Rattle.std.specs.Prelude.{ℕ, min, max, cond, nat_lt, List, [], ◌∷◌, Option, Some, None}
+use Rattle.std.specs.Prelude.{ℕ, min, max, cond, nat_lt, List, [], ◌∷◌, Option, None}
 use Rattle.links.specs.declared.came.Came.{Came}
 use Rattle.links.specs.declared.came.Came.TheVariants.{Bytes, Quiet, Ended}
 use Rattle.links.specs.declared.received.Receipts.{Receipts}

@@ -319,14 +319,15 @@ mod tests {
         assert_eq!(rt; session.send(b"c"), Ok(1));
         assert_eq!(rt; client.receive(&mut room), Ok(Came::Bytes(1)));
         let piece = Vec::from_elem(rt.alloc(), 7u8, 65_536)?;
-        let mut took = 0u32;
-        for _ in 0..1000 {
+        let mut given_up = None;
+        for sent in 0..1000 {
             if session.send(&piece).is_err() {
+                given_up = Some(sent);
                 break;
             }
-            took += 1;
         }
-        assert!(rt; (16..1000).contains(&took));
+        // More than was allowed to lie was taken before, and the system took some of it.
+        assert!(rt; given_up.is_some_and(|sent| sent >= 16));
         drop(client);
         Ok(())
     }
