@@ -1,10 +1,9 @@
 -- Whole frames are read as they are spelt.
-use Rattle.std.proofs.Common.{◌≡◌, ℕ, ◌+◌, ◌*◌, ◌^◌, ◌-◌, ◌<◌, ◌≤◌, Bool, true, false, ◌&&◌, List, [], ◌∷◌, ◌++◌, length, drop, nat_lt, ◌==◌, if◌then◌else◌, Option, Some, None, Result, Ok, refl, sym, ap, subst, ◌∙◌, lit<, lit≤, arith, length-append, inl, inr}
+use Rattle.std.proofs.Common.{◌⊎◌, ◌≡◌, ℕ, ◌+◌, ◌*◌, ◌^◌, ◌-◌, ◌<◌, ◌≤◌, Bool, true, false, ◌&&◌, List, [], ◌∷◌, ◌++◌, length, nat_lt, ◌==◌, if◌then◌else◌, Option, Some, None, Result, Ok, refl, sym, ap, subst, ◌∙◌, lit<, lit≤, arith, length-append, inl, inr}
 use Rattle.std.proofs.Math.Nat.{suc-mul}
 use Rattle.std.proofs.lemmas.Bool.{eqb-true, eq-eqb}
 use Rattle.std.proofs.lemmas.Bool.Decides.{nat_tests}
 use Rattle.std.specs.List.{flat_map}
-use Rattle.std.specs.Int.{to_be_bytes, w32}
 use Rattle.jp_types.specs.Instances.{Batch}
 use Rattle.jp_types.specs.Limits.{AreBytes}
 use Rattle.jp_types.specs.Lists.{In}
@@ -13,18 +12,18 @@ use Rattle.jp_types.specs.declared.message.Message.{Message}
 use Rattle.frame_fields.specs.Faults.{Fault, OtherCluster, told}
 use Rattle.frame_fields.specs.Reading.{Place, Reader, gives, fails, number_within, read_fields}
 use Rattle.frame_fields.specs.Spelling.{optional_bytes, frame_of}
-use Rattle.frame_fields.specs.Laws.{HasRoom, Spans, WasSpelt, IsReadAsSpelt, AllFit, IsWithin}
-use Rattle.frame_fields.proofs.Spellings.{on-back, on-forth, pair-same, sequel, left-bytes, right-bytes}
+use Rattle.frame_fields.specs.Laws.{IsSpelling, HasRoom, Spans, WasSpelt, IsReadAsSpelt, AllFit, IsWithin}
+use Rattle.frame_fields.proofs.Spellings.{on-back, on-forth, pair-same, sequel}
 use Rattle.frame_fields.proofs.FieldSpellings.{numbers-8, number-spelt, fields-read-back, fields-were-spelt}
-use Rattle.frame_stream.specs.Frames.{Whole, behind, spelt, next_frame}
+use Rattle.frame_stream.specs.Frames.{Whole, spelt, next_frame}
 use Rattle.message_codec.specs.Messages.{message_of_kind}
 use Rattle.message_codec.specs.Frames.{is_kind, is_listed, cluster_number, of_cluster, frame_of_kind, read_message, rules}
-use Rattle.message_codec.specs.Spelling.{counter_bytes, batch_bytes, entry_bytes, vote_bytes, report_bytes, kind_of, message_fields, frame_bytes, old_frame_bytes}
+use Rattle.message_codec.specs.Spelling.{counter_bytes, batch_bytes, entry_bytes, vote_bytes, report_bytes, kind_of, message_fields}
 use Rattle.message_codec.specs.Limits.{IsCluster, IsVector, IsSentBatch, IsEntry, IsReport, IsMessage}
 use Rattle.message_codec.specs.Laws.{IsFrame, IsRead}
 use Rattle.message_codec.proofs.MessageSpellings.{batch-length}
 use Rattle.message_codec.proofs.KindSpellings.{IsOfKind, of-kind-spelt}
-use Rattle.message_codec.proofs.Framing.{frame-whole, frame-spelt}
+use Rattle.frame_stream.proofs.Spelt.{AreReadAsSpelt, reads-back as spelt-back, was-spelt as spelt-front}
 
 -- ---- How long the fields of a message are
 
@@ -165,11 +164,10 @@ of-cluster-spelt cluster kind is =
 -- ---- Whole frames
 
 -- the fields of a frame of version 2
-new-reader : (cluster kind : ℕ) → (frame_of_kind cluster (kind + 128)) ≡ of_cluster cluster kind
-new-reader cluster kind =
-    let large : nat_lt (kind + 128) 128 ≡ false = grind (arith, nat_tests) in
-    let less : kind + 128 - 128 ≡ kind = omega arith in
-    ap (λ (b : Bool). if b then message_of_kind (kind + 128) else of_cluster cluster (kind + 128 - 128)) large ∙ ap (λ (k : ℕ). of_cluster cluster k) less
+new-reader : (cluster kind : ℕ) → 128 ≤ kind → frame_of_kind cluster kind ≡ of_cluster cluster (kind - 128)
+new-reader cluster kind le =
+    let large : nat_lt kind 128 ≡ false = grind (arith, nat_tests) in
+    ap (λ (b : Bool). if b then message_of_kind kind else of_cluster cluster (kind - 128)) large
 
 -- the fields of a frame of version 1
 old-reader : (cluster kind : ℕ) → kind < 128 → frame_of_kind cluster kind ≡ message_of_kind kind
@@ -177,67 +175,109 @@ old-reader cluster kind lt =
     let small : nat_lt kind 128 ≡ true = grind (arith, nat_tests) in
     ap (λ (b : Bool). if b then message_of_kind kind else of_cluster cluster (kind - 128)) small
 
-module _ (cluster : ℕ) (old : Bool) where
-  new-read-back : (at : ℕ) (m : Message) (more : List ℕ) → IsCluster cluster → IsMessage m → next_frame (rules cluster old) at (frame_bytes cluster m ++ more) ≡ Whole m (length (frame_bytes cluster m))
-  new-read-back at m more is-cluster is =
-      let kind : ℕ = kind_of m in
-      let within = kind-within m in
-      let fields : List ℕ = counter_bytes cluster ++ message_fields m in
-      let size = message-length m is in
-      let short : length fields < 134217728 = omega arith in
-      let reads : read_message cluster (kind + 128) (behind at 5) fields ≡ Ok m
-      = ap (λ (r : Reader Message). read_fields r (behind at 5) fields) (new-reader cluster kind) ∙ fields-read-back (of-cluster-spelt cluster kind within) (behind at 5) m (is-cluster, (is, refl)) in
-      frame-whole (rules cluster old) at (kind + 128) fields more short (listed-new old kind within) ∙ ap (λ (r : Result Message Fault). spelt r (length (frame_bytes cluster m))) reads
+both-true : (b c : Bool) → (b && c) ≡ true → (b ≡ true) × (c ≡ true)
+both-true true c e = (refl, e)
+both-true false c e = absurd cc
 
-  old-read-back : (at : ℕ) (m : Message) (more : List ℕ) → old ≡ true → IsMessage m → next_frame (rules cluster old) at (old_frame_bytes m ++ more) ≡ Whole m (length (old_frame_bytes m))
-  old-read-back at m more e is =
-      let kind : ℕ = kind_of m in
-      let within = kind-within m in
+module _ (cluster : ℕ) (old : Bool) where
+  -- the fields of a frame of a kind
+  abbrev pub fields_in : ℕ → Message → List ℕ
+  fields_in kind m = if nat_lt kind 128 then message_fields m else counter_bytes cluster ++ message_fields m
+
+  -- a kind of version 2, in a cluster, or one of version 1 where old frames are read
+  abbrev pub HasKind : ℕ → Message → Type 0
+  HasKind kind m = (IsCluster cluster × (kind ≡ kind_of m + 128)) ⊎ ((old ≡ true) × (kind ≡ kind_of m))
+
+  -- a message within its limits that a frame of this kind may spell
+  abbrev pub FitsKind : ℕ → Message → Type 0
+  FitsKind kind m = IsMessage m × HasKind kind m
+
+  new-fields : (kind : ℕ) (m : Message) → 128 ≤ kind → fields_in kind m ≡ counter_bytes cluster ++ message_fields m
+  new-fields kind m le =
+      let large : nat_lt kind 128 ≡ false = grind (arith, nat_tests) in
+      ap (λ (b : Bool). if b then message_fields m else counter_bytes cluster ++ message_fields m) large
+
+  old-fields : (kind : ℕ) (m : Message) → kind < 128 → fields_in kind m ≡ message_fields m
+  old-fields kind m lt =
+      let small : nat_lt kind 128 ≡ true = grind (arith, nat_tests) in
+      ap (λ (b : Bool). if b then message_fields m else counter_bytes cluster ++ message_fields m) small
+
+  is-new : (m : Message) (kind : ℕ) → kind ≡ kind_of m + 128 → 128 ≤ kind
+  is-new m kind e = omega arith
+
+  is-old : (m : Message) (kind : ℕ) → kind ≡ kind_of m → kind < 128
+  is-old m kind e = let high = (kind-within m).1 in omega arith
+
+  listed : (kind : ℕ) (m : Message) → FitsKind kind m → is_listed old kind ≡ true
+  listed kind m (is, inl h) = ap (λ (k : ℕ). is_listed old k) h.1 ∙ listed-new old (kind_of m) (kind-within m)
+  listed kind m (is, inr h) = ap (λ (k : ℕ). is_listed old k) h.1 ∙ listed-old old (kind_of m) h.0 (kind-within m)
+
+  short : (kind : ℕ) (m : Message) → FitsKind kind m → length (fields_in kind m) < 134217728
+  short kind m (is, inl h) =
       let size = message-length m is in
-      let short : length (message_fields m) < 134217728 = omega arith in
-      let high = within.1 in
-      let reads : read_message cluster kind (behind at 5) (message_fields m) ≡ Ok m
-      = ap (λ (r : Reader Message). read_fields r (behind at 5) (message_fields m)) (old-reader cluster kind (omega arith)) ∙ fields-read-back (of-kind-spelt kind within) (behind at 5) m (is, refl) in
-      frame-whole (rules cluster old) at kind (message_fields m) more short (listed-old old kind e within) ∙ ap (λ (r : Result Message Fault). spelt r (length (old_frame_bytes m))) reads
+      let same = ap (λ (l : List ℕ). length l) (new-fields kind m (is-new m kind h.1)) in
+      omega arith
+  short kind m (is, inr h) =
+      let size = message-length m is in
+      let same = ap (λ (l : List ℕ). length l) (old-fields kind m (is-old m kind h.1)) in
+      omega arith
+
+  back : (kind : ℕ) (m : Message) (at : ℕ) → FitsKind kind m → read_message cluster kind at (fields_in kind m) ≡ Ok m
+  back kind m at (is, inl h) =
+      let le = is-new m kind h.1 in
+      let less : kind - 128 ≡ kind_of m = (let e = h.1 in omega arith) in
+      ap (λ (l : List ℕ). read_message cluster kind at l) (new-fields kind m le)
+      ∙ ap (λ (r : Reader Message). read_fields r at (counter_bytes cluster ++ message_fields m)) (new-reader cluster kind le ∙ ap (λ (k : ℕ). of_cluster cluster k) less)
+      ∙ fields-read-back (of-cluster-spelt cluster (kind_of m) (kind-within m)) at m (h.0, (is, refl))
+  back kind m at (is, inr h) =
+      let lt = is-old m kind h.1 in
+      ap (λ (l : List ℕ). read_message cluster kind at l) (old-fields kind m lt)
+      ∙ ap (λ (r : Reader Message). read_fields r at (message_fields m)) (old-reader cluster kind lt ∙ ap (λ (k : ℕ). message_of_kind k) h.1)
+      ∙ fields-read-back (of-kind-spelt (kind_of m) (kind-within m)) at m (is, refl)
+
+  forth : (kind at : ℕ) (bytes : List ℕ) (m : Message) → AreBytes bytes → is_listed old kind ≡ true → read_message cluster kind at bytes ≡ Ok m → IsSpelling (fields_in kind) (FitsKind kind) bytes m
+  forth kind at bytes m are is reads = by (nat_lt kind 128) refl
+    where
+      by : (b : Bool) → nat_lt kind 128 ≡ b → IsSpelling (fields_in kind) (FitsKind kind) bytes m
+      by true g =
+          let small : kind < 128 = grind (arith, nat_tests) in
+          let both = both-true old (is_kind kind) (ap (λ (b : Bool). if b then old && is_kind kind else is_kind (kind - 128)) (sym g) ∙ is) in
+          let read = ap (λ (r : Reader Message). read_fields r at bytes) (sym (old-reader cluster kind small)) ∙ reads in
+          let was = fields-were-spelt (of-kind-spelt kind (kind-is kind both.1)) at bytes m are read in
+          record { fits = (was.fits.0, inr (both.0, sym was.fits.1)); spelt = was.spelt ∙ sym (old-fields kind m small) }
+      by false g =
+          let large : 128 ≤ kind = grind (arith, nat_tests) in
+          let within = kind-is (kind - 128) (ap (λ (b : Bool). if b then old && is_kind kind else is_kind (kind - 128)) (sym g) ∙ is) in
+          let read = ap (λ (r : Reader Message). read_fields r at bytes) (sym (new-reader cluster kind large)) ∙ reads in
+          let was = fields-were-spelt (of-cluster-spelt cluster (kind - 128) within) at bytes m are read in
+          let its : kind ≡ kind_of m + 128 = (let e = was.fits.1.1 in omega arith) in
+          record { fits = (was.fits.1.0, inl (was.fits.0, its)); spelt = was.spelt ∙ sym (new-fields kind m large) }
+
+  -- the frames of messages are read as they are spelt
+  pub frames-spelt : AreReadAsSpelt (rules cluster old) fields_in FitsKind
+  frames-spelt = record { listed = listed; short = short; reads_back = back; was_spelt = λ kind at bytes m are is less reads. forth kind at bytes m are is reads }
+
+  -- ---- The frames of both versions
+
+  -- a frame of a message has one of its kinds
+  pub kind-of-frame : (frame : List ℕ) (m : Message) → IsCluster cluster → IsFrame cluster old frame m → (kind : ℕ) × HasKind kind m × (frame ≡ frame_of kind (fields_in kind m))
+  kind-of-frame frame m is (inl e) =
+      let kind : ℕ = kind_of m + 128 in
+      (kind, inl (is, refl), e ∙ ap (λ (l : List ℕ). frame_of kind l) (sym (new-fields kind m (omega arith))))
+  kind-of-frame frame m is (inr h) = (kind_of m, inr (h.0, refl), h.1 ∙ ap (λ (l : List ℕ). frame_of (kind_of m) l) (sym (old-fields (kind_of m) m (is-old m (kind_of m) refl))))
+
+  -- a frame of one of these kinds is the message's
+  pub frame-of-kind : (kind : ℕ) (m : Message) → HasKind kind m → IsFrame cluster old (frame_of kind (fields_in kind m)) m
+  frame-of-kind kind m (inl h) = inl (ap (λ (l : List ℕ). frame_of kind l) (new-fields kind m (is-new m kind h.1)) ∙ ap (λ (k : ℕ). frame_of k (counter_bytes cluster ++ message_fields m)) h.1)
+  frame-of-kind kind m (inr h) = inr (h.0, ap (λ (l : List ℕ). frame_of kind l) (old-fields kind m (is-old m kind h.1)) ∙ ap (λ (k : ℕ). frame_of k (message_fields m)) h.1)
 
   -- a frame of a message within its limits reads back, whatever follows it
   pub reads-back : (at : ℕ) (m : Message) (frame more : List ℕ) → IsCluster cluster → IsMessage m → IsFrame cluster old frame m → next_frame (rules cluster old) at (frame ++ more) ≡ Whole m (length frame)
-  reads-back at m frame more is-cluster is (inl e) = subst (λ (f : List ℕ). next_frame (rules cluster old) at (f ++ more) ≡ Whole m (length f)) (sym e) (new-read-back at m more is-cluster is)
-  reads-back at m frame more is-cluster is (inr h) = subst (λ (f : List ℕ). next_frame (rules cluster old) at (f ++ more) ≡ Whole m (length f)) (sym h.1) (old-read-back at m more h.0 is)
-
-  both-true : (b c : Bool) → (b && c) ≡ true → (b ≡ true) × (c ≡ true)
-  both-true true c e = (refl, e)
-  both-true false c e = absurd cc
-
-  fields-are-bytes : (bytes : List ℕ) (kind : ℕ) (fields rest : List ℕ) → AreBytes bytes → bytes ≡ frame_of kind fields ++ rest → AreBytes fields
-  fields-are-bytes bytes kind fields rest are e =
-      let front = left-bytes (frame_of kind fields) rest (subst AreBytes e are) in
-      let behind-length : AreBytes (kind ∷ fields) = right-bytes (to_be_bytes w32 (length (kind ∷ fields))) (kind ∷ fields) front in
-      λ b h. behind-length b (inr h)
+  reads-back at m frame more is-cluster is spelt =
+      let k = kind-of-frame frame m is-cluster spelt in
+      subst (λ (f : List ℕ). next_frame (rules cluster old) at (f ++ more) ≡ Whole m (length f)) (sym k.2) (spelt-back (rules cluster old) fields_in FitsKind frames-spelt k.0 m at more (is, k.1))
 
   pub was-spelt : (at : ℕ) (bytes : List ℕ) (m : Message) (size : ℕ) → AreBytes bytes → next_frame (rules cluster old) at bytes ≡ Whole m size → IsRead cluster old bytes m size
   was-spelt at bytes m size are e =
-      let f = frame-spelt (rules cluster old) at bytes m size are e in
-      let fields-are = fields-are-bytes bytes f.kind f.fields (drop size bytes) are f.text in
-      by f.kind f.fields f.text f.size_is fields-are f.listed f.reads (nat_lt f.kind 128) refl
-    where
-      by : (kind : ℕ) (fields : List ℕ) → bytes ≡ frame_of kind fields ++ drop size bytes → size ≡ length (frame_of kind fields) → AreBytes fields → is_listed old kind ≡ true → read_message cluster kind (behind at 5) fields ≡ Ok m
-          → (b : Bool) → nat_lt kind 128 ≡ b → IsRead cluster old bytes m size
-      by kind fields text size_is fields-are listed reads true g =
-          let small : kind < 128 = grind (arith, nat_tests) in
-          let both = both-true old (is_kind kind) (ap (λ (b : Bool). if b then old && is_kind kind else is_kind (kind - 128)) (sym g) ∙ listed) in
-          let within = kind-is kind both.1 in
-          let read = ap (λ (r : Reader Message). read_fields r (behind at 5) fields) (sym (old-reader cluster kind small)) ∙ reads in
-          let was = fields-were-spelt (of-kind-spelt kind within) (behind at 5) fields m fields-are read in
-          let frame : frame_of kind fields ≡ old_frame_bytes m = ap (λ (k : ℕ). frame_of k fields) (sym was.fits.1) ∙ ap (λ (l : List ℕ). frame_of (kind_of m) l) was.spelt in
-          record { begins = record { frame = frame_of kind fields; message = was.fits.0; spelt = inr (both.0, frame); parts = text }; size_is = sym size_is }
-      by kind fields text size_is fields-are listed reads false g =
-          let large : 128 ≤ kind = grind (arith, nat_tests) in
-          let is : kind - 128 + 128 ≡ kind = omega arith in
-          let within = kind-is (kind - 128) (ap (λ (b : Bool). if b then old && is_kind kind else is_kind (kind - 128)) (sym g) ∙ listed) in
-          let same : frame_of_kind cluster kind ≡ of_cluster cluster (kind - 128) = ap (λ (b : Bool). if b then message_of_kind kind else of_cluster cluster (kind - 128)) g in
-          let read = ap (λ (r : Reader Message). read_fields r (behind at 5) fields) (sym same) ∙ reads in
-          let was = fields-were-spelt (of-cluster-spelt cluster (kind - 128) within) (behind at 5) fields m fields-are read in
-          let its : kind ≡ kind_of m + 128 = sym is ∙ ap (λ (k : ℕ). k + 128) (sym was.fits.1.1) in
-          let frame : frame_of kind fields ≡ frame_bytes cluster m = ap (λ (k : ℕ). frame_of k fields) its ∙ ap (λ (l : List ℕ). frame_of (kind_of m + 128) l) was.spelt in
-          record { begins = record { frame = frame_of kind fields; message = was.fits.1.0; spelt = inl frame; parts = text }; size_is = sym size_is }
+      let s = spelt-front (rules cluster old) fields_in FitsKind frames-spelt at bytes m size are e in
+      record { begins = record { frame = frame_of s.kind (fields_in s.kind m); message = s.fits.0; spelt = frame-of-kind s.kind m s.fits.1; parts = s.parts }; size_is = sym s.ends }

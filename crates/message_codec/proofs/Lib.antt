@@ -1,7 +1,6 @@
 mod Examples
 pub mod Joins
 pub mod Loops
-pub mod Framing
 pub mod MessageSpellings
 pub mod KindSpellings
 pub mod FrameSpellings

@@ -1,6 +1,5 @@
 -- The messages of a stream are those of the longest list of frames in front.
-use Rattle.std.proofs.Common.{◌≡◌, ℕ, ◌+◌, Bool, true, List, [], ◌∷◌, ◌++◌, length, take, drop, get_or, Option, Some, None, refl, sym, ap, subst, ◌∙◌, lit≤, arith, append-nil, length-append, inl, inr}
-use Rattle.std.proofs.lemmas.List.{drop_at}
+use Rattle.std.proofs.Common.{◌≡◌, ℕ, ◌+◌, Bool, true, List, [], ◌∷◌, ◌++◌, take, drop, get_or, Option, Some, None, refl, sym, ap, ◌∙◌, lit≤, arith, append-nil, inl, inr}
 use Rattle.std.proofs.lemmas.Nat.{from_be_bytes-to_be_bytes_8}
 use Rattle.std.specs.Int.{to_be_bytes, from_be_bytes, w64}
 use Rattle.jp_types.specs.Limits.{AreBytes}
@@ -8,69 +7,39 @@ use Rattle.jp_types.specs.declared.message.Message.{Message}
 use Rattle.frame_fields.specs.Faults.{Fault}
 use Rattle.frame_fields.specs.declared.fault.FrameFault.{FrameFault}
 use Rattle.frame_fields.specs.Telling.{fault_of}
-use Rattle.frame_fields.proofs.Spellings.{right-bytes}
-use Rattle.frame_stream.specs.Frames.{Next, Waits, Faults, Whole, behind, next_frame, Passes, IsUnfinished}
+use Rattle.frame_stream.specs.Frames.{Next, Waits, Faults, Whole, next_frame, Passes, IsUnfinished}
 use Rattle.frame_stream.specs.Following.{StopsAt, Keeps}
 use Rattle.message_codec.specs.Frames.{rules}
 use Rattle.message_codec.specs.Spelling.{kind_of, frame_bytes, old_frame_bytes}
 use Rattle.message_codec.specs.Limits.{IsCluster, IsMessage}
-use Rattle.message_codec.specs.Laws.{IsFrame, Begins, BeginWith, AreAll, AreOneFrame, MessagesAreAll, NoFrameBeginsAnother, NoOldFrameBeginsAnother}
-use Rattle.message_codec.proofs.FrameSpellings.{kind-within, reads-back, was-spelt}
-
-whole-is : (m n : Message) (size other : ℕ) → (let w : Next Message = Whole m size in w) ≡ Whole n other → (m ≡ n) × (size ≡ other)
-whole-is m n size other e =
-    let f : m ≡ n = cc in
-    let g : size ≡ other = cc in
-    (f, g)
+use Rattle.message_codec.specs.Laws.{IsFrame, BeginWith, AreAll, AreOneFrame, MessagesAreAll, NoFrameBeginsAnother, NoOldFrameBeginsAnother}
+use Rattle.message_codec.proofs.FrameSpellings.{kind-within, fields_in, FitsKind, frames-spelt, kind-of-frame, frame-of-kind}
+use Rattle.frame_stream.proofs.Spelt.{AreSpelt, only-front, passed-spelt, spelt-read}
+use Rattle.frame_fields.specs.Spelling.{frame_of}
 
 module _ (cluster : ℕ) (old : Bool) where
-  begins-whole : IsCluster cluster → (at : ℕ) (bytes : List ℕ) (m : Message) (rest : List ℕ) → (b : Begins cluster old bytes m rest) → (next_frame (rules cluster old) at bytes ≡ Whole m (length b.frame)) × (drop (length b.frame) bytes ≡ rest)
-  begins-whole is at bytes m rest b = (
-    ap (λ (l : List ℕ). next_frame (rules cluster old) at l) b.parts ∙ reads-back cluster old at m b.frame rest is b.message b.spelt,
-    ap (λ (l : List ℕ). drop (length b.frame) l) b.parts ∙ drop_at b.frame rest (length b.frame) refl,
-  )
+  -- frames that are spelt in front begin the bytes
+  spelt-begin : (ms : List Message) (bytes rest : List ℕ) → AreSpelt (fields_in cluster old) (FitsKind cluster old) ms bytes rest → BeginWith cluster old bytes ms rest
+  spelt-begin [] bytes rest h = sym h
+  spelt-begin (m ∷ ms) bytes rest h =
+      let frame : List ℕ = frame_of h.0 (fields_in cluster old h.0 m) in
+      (h.2.0, (record { frame = frame; message = h.1.0; spelt = frame-of-kind cluster old h.0 m h.1.1; parts = h.2.1 }, spelt-begin ms h.2.0 rest h.2.2))
 
-  -- whole frames that are passed begin the bytes
-  passes-begin : (at : ℕ) (bytes : List ℕ) (ms : List Message) (end : ℕ) (rest : List ℕ) → AreBytes bytes → Passes (rules cluster old) at bytes ms end rest → BeginWith cluster old bytes ms rest
-  passes-begin at bytes [] end rest are h = h.1
-  passes-begin at bytes (m ∷ ms) end rest are h =
-      let read = was-spelt cluster old at bytes m h.0 are h.1.0 in
-      let b = read.begins in
-      let less : AreBytes (drop h.0 bytes) = right-bytes b.frame (drop h.0 bytes) (subst AreBytes b.parts are) in
-      (drop h.0 bytes, (b, passes-begin (behind at h.0) (drop h.0 bytes) ms end rest less h.1.1))
-
-  -- messages with whose frames the bytes begin are passed
-  begin-passes : IsCluster cluster → (at : ℕ) (bytes : List ℕ) (ms : List Message) (rest : List ℕ) → BeginWith cluster old bytes ms rest → (end : ℕ) × Passes (rules cluster old) at bytes ms end rest
-  begin-passes is at bytes [] rest h = (at, (refl, h))
-  begin-passes is at bytes (m ∷ ms) rest h =
-      let size : ℕ = length h.1.0.frame in
-      let one = begins-whole is at bytes m h.0 h.1.0 in
-      let others = begin-passes is (behind at size) h.0 ms rest h.1.1 in
-      (others.0, (size, (one.0, subst (λ (l : List ℕ). Passes (rules cluster old) (behind at size) l ms others.0 rest) (sym one.1) others.1)))
-
-  never : (next : Next Message) (m : Message) (size : ℕ) → IsUnfinished next → next ≡ Whole m size → ⊥
-  never Waits m size u e = absurd cc
-  never (Faults fault) m size u e = absurd cc
-  never (Whole n other) m size u e = u
-
-  longest : IsCluster cluster → (at : ℕ) (bytes : List ℕ) (ms : List Message) (end : ℕ) (rest : List ℕ) → Passes (rules cluster old) at bytes ms end rest → IsUnfinished (next_frame (rules cluster old) end rest) → (others : List Message) (left : List ℕ)
-      → BeginWith cluster old bytes others left → (more : List Message) × (ms ≡ others ++ more)
-  longest is at bytes ms end rest passes unfinished [] left h = (ms, refl)
-  longest is at bytes [] end rest passes unfinished (o ∷ os) left h =
-      let one = begins-whole is at bytes o h.0 h.1.0 in
-      let there : next_frame (rules cluster old) end rest ≡ Whole o (length h.1.0.frame)
-      = ap (λ (n : ℕ). next_frame (rules cluster old) n rest) passes.0 ∙ ap (λ (l : List ℕ). next_frame (rules cluster old) at l) passes.1 ∙ one.0 in
-      absurd (never (next_frame (rules cluster old) end rest) o (length h.1.0.frame) unfinished there)
-  longest is at bytes (m ∷ ms) end rest passes unfinished (o ∷ os) left h =
-      let one = begins-whole is at bytes o h.0 h.1.0 in
-      let same = whole-is m o passes.0 (length h.1.0.frame) (sym passes.1.0 ∙ one.0) in
-      let there : h.0 ≡ drop passes.0 bytes = sym one.1 ∙ ap (λ (n : ℕ). drop n bytes) (sym same.1) in
-      let others = longest is (behind at passes.0) (drop passes.0 bytes) ms end rest passes.1.1 unfinished os left (subst (λ (l : List ℕ). BeginWith cluster old l os left) there h.1.1) in
-      (others.0, ap (λ (x : Message). x ∷ ms) same.0 ∙ ap (λ (xs : List Message). o ∷ xs) others.1)
+  -- frames with which the bytes begin are spelt in front
+  begin-spelt : IsCluster cluster → (ms : List Message) (bytes rest : List ℕ) → BeginWith cluster old bytes ms rest → AreSpelt (fields_in cluster old) (FitsKind cluster old) ms bytes rest
+  begin-spelt is [] bytes rest h = sym h
+  begin-spelt is (m ∷ ms) bytes rest h =
+      let b = h.1.0 in
+      let k = kind-of-frame cluster old b.frame m is b.spelt in
+      (k.0, (b.message, k.1), (h.0, b.parts ∙ ap (λ (f : List ℕ). f ++ h.0) k.2, begin-spelt is ms h.0 rest h.1.1))
 
   all-read : IsCluster cluster → (stream : List ℕ) (ms : List Message) (end : ℕ) (rest : List ℕ) → AreBytes stream → Passes (rules cluster old) 0 stream ms end rest → IsUnfinished (next_frame (rules cluster old) end rest) → AreAll cluster old stream ms
   all-read is stream ms end rest are passes unfinished =
-      record { rest = rest; begin = passes-begin 0 stream ms end rest are passes; longest = longest is 0 stream ms end rest passes unfinished }
+      record {
+        rest = rest;
+        begin = spelt-begin ms stream rest (passed-spelt (rules cluster old) (fields_in cluster old) (FitsKind cluster old) (frames-spelt cluster old) 0 stream ms end rest are passes);
+        longest = λ others left h. spelt-read (rules cluster old) (fields_in cluster old) (FitsKind cluster old) (frames-spelt cluster old) 0 stream ms end rest others left passes unfinished (begin-spelt is others stream left h);
+      }
 
   unfinished-at : (fault : Fault) (next : Next Message) → next ≡ Faults fault → IsUnfinished next
   unfinished-at fault Waits e = tt
@@ -101,14 +70,12 @@ cluster-of cluster other is also e =
 -- two readings of one list of bytes
 one-reading : (cluster : ℕ) (f g more : List ℕ) (m n : Message) → IsCluster cluster → IsMessage m → IsMessage n → IsFrame cluster true f m → IsFrame cluster true g n → f ++ more ≡ g → (m ≡ n) × (more ≡ [])
 one-reading cluster f g more m n is-cluster is also spelt-f spelt-g e =
-    let left = reads-back cluster true 0 m f more is-cluster is spelt-f in
-    let right = reads-back cluster true 0 n g [] is-cluster also spelt-g in
-    let same = whole-is m n (length f) (length g) (sym left ∙ ap (λ (l : List ℕ). next_frame (rules cluster true) 0 l) (e ∙ sym (append-nil g)) ∙ right) in
-    (same.0, none more (let long = length-append f more in let size = ap length e in let size_is = same.1 in omega arith))
-  where
-    none : (xs : List ℕ) → length xs ≡ 0 → xs ≡ []
-    none [] h = refl
-    none (x ∷ xs) h = absurd (omega arith)
+    let k = kind-of-frame cluster true f m is-cluster spelt-f in
+    let l = kind-of-frame cluster true g n is-cluster spelt-g in
+    let line : frame_of k.0 (fields_in cluster true k.0 m) ++ more ≡ frame_of l.0 (fields_in cluster true l.0 n) ++ []
+    = ap (λ (x : List ℕ). x ++ more) (sym k.2) ∙ e ∙ l.2 ∙ sym (append-nil (frame_of l.0 (fields_in cluster true l.0 n))) in
+    let same = only-front (rules cluster true) (fields_in cluster true) (FitsKind cluster true) (frames-spelt cluster true) k.0 l.0 m n more [] (is, k.1) (also, l.1) line in
+    (same.1, same.2)
 
 pub new-frames : (cluster other : ℕ) (m n : Message) (more : List ℕ) → IsCluster cluster → IsCluster other → IsMessage m → IsMessage n → frame_bytes cluster m ++ more ≡ frame_bytes other n → AreOneFrame cluster other m n more
 new-frames cluster other m n more is also is-m is-n e =

@@ -32,7 +32,7 @@ const FRAMES: [&[u8]; 10] = [
       \0\0\0\0\0\0\0\x04\x01\0\0\0\x01\0\0\0\0\0\0\0\x07\0\0\0\0\0\0\0\x02\x03\0\x01k",
     b"\0\0\0\x38\x83\0\0\0\0\0\0\0\x05\0\0\0\0\0\0\0\x01\0\0\0\0\0\0\0\x02\
       \0\0\0\x01\0\0\0\0\0\0\0\x07\0\0\0\0\0\0\0\x03\x04\0\x01k\x01\0\x02ol\0\0",
-    b"\0\0\0\x19\x84\0\0\0\0\0\0\0\x05\0\0\0\0\0\0\0\x01\0\0\0\0\0\0\0\x02",
+    ACCEPT,
     b"\0\0\0\x11\x85\0\0\0\0\0\0\0\x05\0\0\0\0\0\0\0\x07",
     b"\0\0\0\x6a\x86\0\0\0\0\0\0\0\x05\0\0\0\0\0\0\0\x02\0\0\0\0\0\0\0\x03\
       \0\0\0\0\0\0\0\0\0\0\0\0\0\0\0\0\0\0\0\0\0\0\0\0\0\0\0\0\0\0\0\0\0\0\0\0\0\0\0\0\
@@ -44,6 +44,9 @@ const FRAMES: [&[u8]; 10] = [
     b"\0\0\0\x22\x89\0\0\0\0\0\0\0\x05\0\0\0\0\0\0\x01\0\0\0\0\x05\0\0\0\0\0\0\0\x05bytes",
     b"\0\0\0\x19\x8a\0\0\0\0\0\0\0\x05\0\0\0\0\0\0\0\x01\0\0\0\0\0\0\0\x02",
 ];
+
+// The Accept of view 1 and instance 2, of version 2.
+const ACCEPT: &[u8] = b"\0\0\0\x19\x84\0\0\0\0\0\0\0\x05\0\0\0\0\0\0\0\x01\0\0\0\0\0\0\0\x02";
 
 // The Accept of view 1 and instance 2, of version 1.
 const OLD_ACCEPT: &[u8] = b"\0\0\0\x11\x04\0\0\0\0\0\0\0\x01\0\0\0\0\0\0\0\x02";
@@ -183,26 +186,38 @@ fn read(alloc: Global, old: bool, pieces: &[&[u8]]) -> Result<(String, Option<Fr
     Ok((format!(in alloc; "{out:?}")?, fault))
 }
 
+// Whether a reader gives this message alone, wherever its frame is cut in two.
+fn is_read_in_two(alloc: Global, frame: &[u8], shown: &str) -> Result<bool, Fail> {
+    for cut in 0..frame.len() {
+        let (front, back) = frame.split_at(cut);
+        let (read, fault) = read(alloc, false, &[front, back])?;
+        if read.as_str() != shown || fault.is_some() {
+            return Ok(false);
+        }
+    }
+    Ok(true)
+}
+
+// Whether a reader gives this message alone that is fed one byte a call, and holds what it was fed until then.
+fn is_read_by_bytes(alloc: Global, frame: &[u8], shown: &str) -> Result<bool, Fail> {
+    let mut reader = Reader::new(alloc, CLUSTER, false)?;
+    let mut out = Vec::new(alloc);
+    for (fed, byte) in frame.iter().enumerate() {
+        if reader.held() != fed as u64 || reader.feed(&[*byte], &mut out).is_err() {
+            return Ok(false);
+        }
+    }
+    Ok(reader.held() == 0 && format!(in alloc; "{out:?}")?.as_str() == shown)
+}
+
 #[test]
 fn a_frame_of_each_kind_is_read_under_any_cutting(rt: HostRuntime) -> Result<(), Fail> {
     let alloc = rt.alloc();
-    for (message, frame) in messages(alloc)?.into_iter().zip(FRAMES) {
-        assert_eq!(rt; spell(alloc, &message, CLUSTER)?.as_slice(), frame);
+    for (message, frame) in messages(alloc)?.iter().zip(&FRAMES) {
+        assert_eq!(rt; spell(alloc, message, CLUSTER)?.as_slice(), *frame);
         let shown = format!(in alloc; "[{message:?}]")?;
-        for cut in 0..frame.len() {
-            let (front, back) = frame.split_at(cut);
-            let read = read(alloc, false, &[front, back])?;
-            assert_eq!(rt; read.0, shown);
-            assert_eq!(rt; read.1, None);
-        }
-        let mut reader = Reader::new(alloc, CLUSTER, false)?;
-        let mut out = Vec::new(alloc);
-        for (fed, byte) in frame.iter().enumerate() {
-            assert_eq!(rt; reader.held(), fed as u64);
-            assert_eq!(rt; reader.feed(&[*byte], &mut out), Ok(()));
-        }
-        assert_eq!(rt; reader.held(), 0);
-        assert_eq!(rt; format!(in alloc; "{out:?}")?, shown);
+        assert!(rt; is_read_in_two(alloc, frame, &shown)?);
+        assert!(rt; is_read_by_bytes(alloc, frame, &shown)?);
     }
     Ok(())
 }
@@ -239,60 +254,134 @@ fn counters_are_at_most_two_to_the_48(rt: HostRuntime) -> Result<(), Fail> {
     Ok(())
 }
 
-// So many requests, each of 20 bytes.
-fn gets(alloc: Global, count: u64) -> Result<Batch, NoMemory> {
-    let mut batch = Batch::empty(alloc);
-    for number in 0..count {
-        batch.push(Request {
-            client: 7,
-            number: number + 1,
-            command: get(alloc, b"k")?,
-        })?;
-    }
-    Ok(batch)
+// A batch of like requests, each a Get, or a Put where the value's length is told.
+#[derive(Clone, Copy, Drop)]
+struct Like {
+    requests: u64,
+    client: u64,
+    number: u64,
+    key: usize,
+    value: Option<usize>,
 }
 
-// Sixteen requests: fifteen of 4,096 bytes, and one whose value has so many.
-fn puts(alloc: Global, last: usize) -> Result<Batch, Fail> {
-    let value = vec![in alloc; b'v'; 4096]?;
+const GET: Like = Like {
+    requests: 1,
+    client: 7,
+    number: 1,
+    key: 1,
+    value: None,
+};
+
+fn batch_like(alloc: Global, like: &Like) -> Result<Batch, Fail> {
+    let key = vec![in alloc; b'k'; like.key]?;
     let mut batch = Batch::empty(alloc);
-    for number in 1..16 {
+    for _ in 0..like.requests {
+        let command = match like.value {
+            Some(value) => put(alloc, &key, &vec![in alloc; b'v'; value]?)?,
+            None => get(alloc, &key)?,
+        };
         batch.push(Request {
-            client: 7,
-            number,
-            command: put(alloc, b"k", &value[..4074])?,
+            client: like.client,
+            number: like.number,
+            command,
         })?;
     }
-    batch.push(Request {
-        client: 7,
-        number: 16,
-        command: put(alloc, b"k", value.get(..last).unwrap_or(&[]))?,
-    })?;
     Ok(batch)
 }
 
 #[test]
 fn batches_are_within_their_limits(rt: HostRuntime) -> Result<(), Fail> {
-    let alloc = rt.alloc();
-    let long = vec![in alloc; b'k'; 4097]?;
     let lines = [
-        (gets(alloc, 1024)?, None),
-        (gets(alloc, 1025)?, Some(29)),
-        (puts(alloc, 4070)?, None),
-        (puts(alloc, 4071)?, Some(29)),
-        (batch(alloc, 1023, NUMBERS, get(alloc, b"k")?)?, None),
-        (batch(alloc, 1024, 1, get(alloc, b"k")?)?, Some(33)),
-        (batch(alloc, 7, 0, get(alloc, b"k")?)?, Some(41)),
-        (batch(alloc, 7, NUMBERS + 1, get(alloc, b"k")?)?, Some(41)),
-        (batch(alloc, 7, 1, get(alloc, &long[..256])?)?, None),
-        (batch(alloc, 7, 1, get(alloc, &long[..257])?)?, Some(50)),
-        (batch(alloc, 7, 1, get(alloc, b"")?)?, Some(50)),
-        (batch(alloc, 7, 1, put(alloc, b"k", &long[..4096])?)?, None),
-        (batch(alloc, 7, 1, put(alloc, b"k", &long)?)?, Some(53)),
+        (Like { requests: 0, ..GET }, None),
+        (
+            Like {
+                requests: 1024,
+                ..GET
+            },
+            None,
+        ),
+        (
+            Like {
+                requests: 1025,
+                ..GET
+            },
+            Some(29),
+        ),
+        (
+            Like {
+                client: 1023,
+                number: NUMBERS,
+                ..GET
+            },
+            None,
+        ),
+        (
+            Like {
+                client: 1024,
+                ..GET
+            },
+            Some(33),
+        ),
+        (Like { number: 0, ..GET }, Some(41)),
+        (
+            Like {
+                number: NUMBERS + 1,
+                ..GET
+            },
+            Some(41),
+        ),
+        (Like { key: 0, ..GET }, Some(50)),
+        (Like { key: 256, ..GET }, None),
+        (Like { key: 257, ..GET }, Some(50)),
+        (
+            Like {
+                value: Some(4096),
+                ..GET
+            },
+            None,
+        ),
+        (
+            Like {
+                value: Some(4097),
+                ..GET
+            },
+            Some(53),
+        ),
     ];
-    for (batch, place) in lines {
+    for (like, place) in &lines {
+        let message = propose(batch_like(rt.alloc(), like)?);
         assert_eq!(rt;
-            fault_of(alloc, &propose(batch))?,
+            fault_of(rt.alloc(), &message)?,
+            place.map(FrameFault::BadField)
+        );
+    }
+    Ok(())
+}
+
+// Fifteen requests of 4,096 bytes, and one whose value has so many: with 4,070 the batch has 65,536 bytes.
+fn large_batch(alloc: Global, last: usize) -> Result<Batch, Fail> {
+    let mut batch = batch_like(
+        alloc,
+        &Like {
+            requests: 15,
+            value: Some(4074),
+            ..GET
+        },
+    )?;
+    batch.push(Request {
+        client: 7,
+        number: 1,
+        command: put(alloc, b"k", &vec![in alloc; b'v'; last]?)?,
+    })?;
+    Ok(batch)
+}
+
+#[test]
+fn a_batch_has_at_most_65536_bytes(rt: HostRuntime) -> Result<(), Fail> {
+    for (last, place) in [(4070, None), (4071, Some(29)), (4096, Some(29))] {
+        let message = propose(large_batch(rt.alloc(), last)?);
+        assert_eq!(rt;
+            fault_of(rt.alloc(), &message)?,
             place.map(FrameFault::BadField)
         );
     }
@@ -319,54 +408,81 @@ fn reply(alloc: Global, count: u64) -> Result<Message, NoMemory> {
 
 #[test]
 fn lists_are_within_their_limits(rt: HostRuntime) -> Result<(), Fail> {
-    let alloc = rt.alloc();
-    let bytes = vec![in alloc; b'b'; 65_537]?;
-    let lines = [
-        (report(alloc, 1024)?, None),
-        (report(alloc, 1025)?, Some(109)),
-        (reply(alloc, 0)?, Some(21)),
-        (reply(alloc, 64)?, None),
-        (reply(alloc, 65)?, Some(21)),
-        (part(268_435_456, octets(alloc, &bytes[..65_536])?), None),
-        (part(268_435_457, octets(alloc, b"")?), Some(21)),
-        (part(0, octets(alloc, &bytes)?), Some(29)),
-    ];
-    for (message, place) in lines {
-        assert_eq!(rt; fault_of(alloc, &message)?, place.map(FrameFault::BadField));
+    for (count, place) in [(1024, None), (1025, Some(109))] {
+        let message = report(rt.alloc(), count)?;
+        assert_eq!(rt;
+            fault_of(rt.alloc(), &message)?,
+            place.map(FrameFault::BadField)
+        );
+    }
+    for (count, place) in [(0, Some(21)), (64, None), (65, Some(21))] {
+        let message = reply(rt.alloc(), count)?;
+        assert_eq!(rt;
+            fault_of(rt.alloc(), &message)?,
+            place.map(FrameFault::BadField)
+        );
     }
     Ok(())
+}
+
+#[test]
+fn parts_are_within_their_limits(rt: HostRuntime) -> Result<(), Fail> {
+    let lines = [
+        (268_435_456, 65_536, None),
+        (268_435_457, 0, Some(21)),
+        (0, 65_537, Some(29)),
+    ];
+    for (total, size, place) in lines {
+        let message = part(
+            total,
+            octets(rt.alloc(), &vec![in rt.alloc(); b'b'; size]?)?,
+        );
+        assert_eq!(rt;
+            fault_of(rt.alloc(), &message)?,
+            place.map(FrameFault::BadField)
+        );
+    }
+    Ok(())
+}
+
+// A frame with another byte at this place.
+fn changed(alloc: Global, frame: &[u8], place: usize, byte: u8) -> Result<Vec<u8>, NoMemory> {
+    let mut frame = Vec::from_slice(alloc, frame)?;
+    if let Some(old) = frame.get_mut(place) {
+        *old = byte;
+    }
+    Ok(frame)
 }
 
 #[test]
 fn a_byte_of_a_frame_is_changed(rt: HostRuntime) -> Result<(), Fail> {
     let alloc = rt.alloc();
     let lines = [
-        (FRAMES[0], 0, 8, FrameFault::TooLong(0)),
-        (FRAMES[0], 3, 0, FrameFault::BadLength(0)),
-        (FRAMES[0], 3, 32, FrameFault::BadLength(29)),
-        (FRAMES[0], 4, 0x80, FrameFault::BadKind(4)),
-        (FRAMES[0], 4, 0x8b, FrameFault::BadKind(4)),
-        (FRAMES[0], 4, 1, FrameFault::BadKind(4)),
-        (FRAMES[0], 12, 0, FrameFault::BadField(5)),
-        (FRAMES[0], 6, 1, FrameFault::BadField(5)),
-        (FRAMES[0], 12, 6, FrameFault::OtherCluster { at: 5, got: 6 }),
-        (FRAMES[1], 121, 2, FrameFault::BadField(121)),
-        (FRAMES[1], 150, 0, FrameFault::BadField(150)),
-        (FRAMES[1], 150, 5, FrameFault::BadField(150)),
-        (FRAMES[1], 161, 3, FrameFault::BadField(154)),
-        (FRAMES[2], 53, 2, FrameFault::BadField(53)),
-        (FRAMES[2], 58, 16, FrameFault::BadLength(60)),
-        (FRAMES[2], 58, 17, FrameFault::BadField(58)),
-        (FRAMES[5], 101, 0, FrameFault::BadLength(102)),
-        (FRAMES[5], 101, 2, FrameFault::BadField(101)),
-        (FRAMES[7], 21, 3, FrameFault::BadLength(53)),
+        (0, 0, 8, FrameFault::TooLong(0)),
+        (0, 3, 0, FrameFault::BadLength(0)),
+        (0, 3, 32, FrameFault::BadLength(29)),
+        (0, 4, 0x80, FrameFault::BadKind(4)),
+        (0, 4, 0x8b, FrameFault::BadKind(4)),
+        (0, 4, 1, FrameFault::BadKind(4)),
+        (0, 12, 0, FrameFault::BadField(5)),
+        (0, 6, 1, FrameFault::BadField(5)),
+        (0, 12, 6, FrameFault::OtherCluster { at: 5, got: 6 }),
+        (1, 121, 2, FrameFault::BadField(121)),
+        (1, 150, 0, FrameFault::BadField(150)),
+        (1, 150, 5, FrameFault::BadField(150)),
+        (1, 161, 3, FrameFault::BadField(154)),
+        (2, 53, 2, FrameFault::BadField(53)),
+        (2, 58, 16, FrameFault::BadLength(60)),
+        (2, 58, 17, FrameFault::BadField(58)),
+        (5, 101, 0, FrameFault::BadLength(102)),
+        (5, 101, 2, FrameFault::BadField(101)),
+        (7, 21, 3, FrameFault::BadLength(53)),
     ];
+    let frames = FRAMES;
     for (frame, place, byte, fault) in lines {
-        let mut bytes = Vec::from_slice(alloc, frame)?;
-        if let Some(changed) = bytes.get_mut(place) {
-            *changed = byte;
-        }
-        assert_eq!(rt; read(alloc, false, &[&bytes])?.1, Some(fault));
+        let frame = frames.get(frame).copied().unwrap_or(&[]);
+        let frame = changed(alloc, frame, place, byte)?;
+        assert_eq!(rt; read(alloc, false, &[&frame])?.1, Some(fault));
     }
     Ok(())
 }
@@ -377,7 +493,7 @@ fn frames_of_version_1_are_read_where_old_ones_are(rt: HostRuntime) -> Result<()
     let lines = [
         (OLD_ACCEPT, true, None),
         (OLD_ACCEPT, false, Some(FrameFault::BadKind(4))),
-        (FRAMES[3], true, None),
+        (ACCEPT, true, None),
         (
             b"\0\0\0\x11\x04\0\x01\0\0\0\0\0\0\0\0\0\0\0\0\0\x02",
             true,
