@@ -1,4 +1,3 @@
-pub mod Batches
 pub mod Spellings
 pub mod FieldSpellings
 pub mod Framing

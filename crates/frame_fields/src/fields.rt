@@ -8,11 +8,9 @@ ghost use Rattle.frame_fields.specs.Telling.{Tells};
 use crate::fault::FrameFault;
 use jp_types::command::{Command, Reply, Request};
 use jp_types::octets::Octets;
+use jp_types::views::NUMBER_LIMIT;
 use std::alloc::Global;
 use std::marker::Model;
-
-/// The greatest number of a request, and the greatest view, instance, mark and epoch.
-const NUMBERS: u64 = 1 << 48;
 
 /// How many clients there may be, which are numbered from 0.
 const CLIENTS: u64 = 1024;
@@ -141,7 +139,7 @@ impl<'a> Fields<'a> {
     pub fn counter(&mut self) -> Result<u64, FrameFault>
         ensures { Tells (λ read. (read, self.new)) result (counter self.old) }
     {
-        self.number_within(8, 0, NUMBERS)
+        self.number_within(8, 0, NUMBER_LIMIT)
     }
 
     /// A counter, if there is one.
@@ -236,7 +234,7 @@ impl<'a> Fields<'a> {
         ensures { Tells (λ read. (read, self.new)) result (request self.old) }
     {
         let client = self.number_within(8, 0, CLIENTS - 1)?;
-        let number = self.number_within(8, 1, NUMBERS)?;
+        let number = self.number_within(8, 1, NUMBER_LIMIT)?;
         let command = self.command(alloc)?;
         Ok(Request {
             client,

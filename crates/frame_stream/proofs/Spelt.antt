@@ -1,5 +1,5 @@
 -- Frames whose fields are read as they are spelt.
-use Rattle.std.proofs.Common.{◌≡◌, ℕ, zero, suc, ◌+◌, ◌-◌, ◌*◌, ◌/◌, ◌%◌, ◌^◌, ◌<◌, ◌≤◌, Bool, true, false, not, nat_lt, ◌==◌, if◌then◌else◌, List, [], ◌∷◌, ◌++◌, length, take, drop, slice_index, get_or, refl, sym, ◌∙◌, ap, subst, ◌⊎◌, inl, inr, Result, Ok, Err, append_assoc, append-nil, length-append, arith}
+use Rattle.std.proofs.Common.{◌≡◌, ℕ, zero, suc, ◌+◌, ◌-◌, ◌/◌, ◌%◌, ◌^◌, ◌<◌, ◌≤◌, Bool, true, false, not, nat_lt, ◌==◌, if◌then◌else◌, List, [], ◌∷◌, ◌++◌, length, take, drop, slice_index, get_or, refl, sym, ◌∙◌, ap, subst, inl, inr, Result, Ok, Err, length-append, arith}
 use Rattle.std.proofs.lemmas.Bool.{le-ltb, ltb-false, eqb-false}
 use Rattle.std.proofs.lemmas.Bool.Decides.{nat_tests}
 use Rattle.std.proofs.lemmas.List.{take-append-drop, take_at, drop_at, length-take-le}
@@ -7,12 +7,11 @@ use Rattle.std.proofs.lemmas.Nat.{be_bytes_4, from_be_bytes-to_be_bytes_4}
 use Rattle.std.specs.Int.{from_be_bytes, to_be_bytes, w32}
 use Rattle.std.specs.List.{slice_range}
 use Rattle.jp_types.specs.Limits.{AreBytes}
-use Rattle.jp_types.specs.Lists.{In}
 use Rattle.frame_fields.specs.Faults.{Fault, BadKind, BadLength, TooLong}
 use Rattle.frame_fields.specs.Laws.{IsSpelling}
 use Rattle.frame_fields.specs.Spelling.{frame_of}
 use Rattle.frame_fields.proofs.Spellings.{left-bytes, right-bytes}
-use Rattle.frame_stream.specs.Frames.{Rules, Next, Waits, Faults, Whole, longest, behind, spelt, frame_of_kind, frame_of_length, next_frame, Passes, IsUnfinished, Reads}
+use Rattle.frame_stream.specs.Frames.{Rules, Next, Waits, Faults, Whole, longest, behind, spelt, frame_of_kind, frame_of_length, next_frame, Passes, IsUnfinished}
 
 -- How the fields of a frame of each kind are spelt, and which items fit a kind: the rules read each item that fits as it is
 -- spelt, and of bytes they read no other.
