@@ -59,22 +59,61 @@ fn each_frame_is_read_as_spelt_cut_at_each_byte(rt: HostRuntime) -> Result<(), F
 // Streams of one frame, and their faults.
 const REQUESTS: [(&[u8], FrameFault); 10] = [
     (b"\0\0\0\x09\x01\0\0\0\0\0\0\x04\0", FrameFault::BadField(5)),
-    (b"\0\0\0\x11\x01\0\0\0\0\0\0\x03\xff\0\0\0\0\0\0\0\0", FrameFault::BadField(13)),
-    (b"\0\0\0\x11\x01\0\0\0\0\0\0\x03\xff\0\x01\0\0\0\0\0\x01", FrameFault::BadField(13)),
-    (b"\0\0\0\x12\x01\0\0\0\0\0\0\0\0\0\0\0\0\0\0\0\x01\0", FrameFault::BadField(21)),
-    (b"\0\0\0\x12\x01\0\0\0\0\0\0\0\0\0\0\0\0\0\0\0\x01\x05", FrameFault::BadField(21)),
-    (b"\0\0\0\x14\x01\0\0\0\0\0\0\0\0\0\0\0\0\0\0\0\x01\x02\0\0", FrameFault::BadField(22)),
-    (b"\0\0\0\x14\x01\0\0\0\0\0\0\0\0\0\0\0\0\0\0\0\x01\x02\x01\x01", FrameFault::BadField(22)),
-    (b"\0\0\0\x15\x01\0\0\0\0\0\0\0\0\0\0\0\0\0\0\0\x01\x02\0\x02k", FrameFault::BadLength(24)),
-    (b"\0\0\0\x17\x01\0\0\0\0\0\0\0\0\0\0\0\0\0\0\0\x01\x01\0\x01k\x10\x01", FrameFault::BadField(25)),
-    (b"\0\0\0\x16\x01\0\0\0\0\0\0\0\0\0\0\0\0\0\0\0\x01\x04\0\x01k\x02", FrameFault::BadField(25)),
+    (
+        b"\0\0\0\x11\x01\0\0\0\0\0\0\x03\xff\0\0\0\0\0\0\0\0",
+        FrameFault::BadField(13),
+    ),
+    (
+        b"\0\0\0\x11\x01\0\0\0\0\0\0\x03\xff\0\x01\0\0\0\0\0\x01",
+        FrameFault::BadField(13),
+    ),
+    (
+        b"\0\0\0\x12\x01\0\0\0\0\0\0\0\0\0\0\0\0\0\0\0\x01\0",
+        FrameFault::BadField(21),
+    ),
+    (
+        b"\0\0\0\x12\x01\0\0\0\0\0\0\0\0\0\0\0\0\0\0\0\x01\x05",
+        FrameFault::BadField(21),
+    ),
+    (
+        b"\0\0\0\x14\x01\0\0\0\0\0\0\0\0\0\0\0\0\0\0\0\x01\x02\0\0",
+        FrameFault::BadField(22),
+    ),
+    (
+        b"\0\0\0\x14\x01\0\0\0\0\0\0\0\0\0\0\0\0\0\0\0\x01\x02\x01\x01",
+        FrameFault::BadField(22),
+    ),
+    (
+        b"\0\0\0\x15\x01\0\0\0\0\0\0\0\0\0\0\0\0\0\0\0\x01\x02\0\x02k",
+        FrameFault::BadLength(24),
+    ),
+    (
+        b"\0\0\0\x17\x01\0\0\0\0\0\0\0\0\0\0\0\0\0\0\0\x01\x01\0\x01k\x10\x01",
+        FrameFault::BadField(25),
+    ),
+    (
+        b"\0\0\0\x16\x01\0\0\0\0\0\0\0\0\0\0\0\0\0\0\0\x01\x04\0\x01k\x02",
+        FrameFault::BadField(25),
+    ),
 ];
 
 const OTHERS: [(&[u8], FrameFault); 12] = [
-    (b"\0\0\0\x0a\x02\0\x01\0\0\0\0\0\x01\x01", FrameFault::BadField(5)),
-    (b"\0\0\0\x0a\x02\0\0\0\0\0\0\0\x01\0", FrameFault::BadField(13)),
-    (b"\0\0\0\x0a\x02\0\0\0\0\0\0\0\x01\x05", FrameFault::BadField(13)),
-    (b"\0\0\0\x0c\x02\0\0\0\0\0\0\0\x01\x02\x10\x01", FrameFault::BadField(14)),
+    (
+        b"\0\0\0\x0a\x02\0\x01\0\0\0\0\0\x01\x01",
+        FrameFault::BadField(5),
+    ),
+    (
+        b"\0\0\0\x0a\x02\0\0\0\0\0\0\0\x01\0",
+        FrameFault::BadField(13),
+    ),
+    (
+        b"\0\0\0\x0a\x02\0\0\0\0\0\0\0\x01\x05",
+        FrameFault::BadField(13),
+    ),
+    (
+        b"\0\0\0\x0c\x02\0\0\0\0\0\0\0\x01\x02\x10\x01",
+        FrameFault::BadField(14),
+    ),
     (b"\0\0\0\x02\x03\x09", FrameFault::BadField(5)),
     (b"\0\0\0\x09\x04\0\0\0\0\0\0\0\0", FrameFault::BadField(5)),
     (b"\0\0\0\x04\x04\0\0\0", FrameFault::BadLength(5)),

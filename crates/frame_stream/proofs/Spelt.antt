@@ -140,10 +140,10 @@ was-spelt {Item} rules fields Fits law at bytes x size are e = parts bytes are (
         let fs : List ℕ = fields k x in
         let count' : length (k ∷ fs) ≡ suc m = ap suc (ap length (sym was.spelt) ∙ count) in
         let frame : frame_of k fs ≡ a ∷ b ∷ c ∷ d ∷ k ∷ take m tail =
-            ap (λ (n : ℕ). to_be_bytes w32 n ++ k ∷ fs) count' ∙ ap (λ (l : List ℕ). l ++ k ∷ fs) head ∙ ap (λ (l : List ℕ). a ∷ b ∷ c ∷ d ∷ k ∷ l) (sym was.spelt) in
+        ap (λ (n : ℕ). to_be_bytes w32 n ++ k ∷ fs) count' ∙ ap (λ (l : List ℕ). l ++ k ∷ fs) head ∙ ap (λ (l : List ℕ). a ∷ b ∷ c ∷ d ∷ k ∷ l) (sym was.spelt) in
         let left : drop size (a ∷ b ∷ c ∷ d ∷ k ∷ tail) ≡ drop m tail = ap (λ (n : ℕ). drop n (a ∷ b ∷ c ∷ d ∷ k ∷ tail)) (the-size m end) in
         let both : a ∷ b ∷ c ∷ d ∷ k ∷ tail ≡ frame_of k fs ++ drop size (a ∷ b ∷ c ∷ d ∷ k ∷ tail) =
-            ap (λ (l : List ℕ). a ∷ b ∷ c ∷ d ∷ k ∷ l) (sym (take-append-drop m tail)) ∙ ap (λ (l : List ℕ). l ++ drop m tail) (sym frame) ∙ ap (λ (l : List ℕ). frame_of k fs ++ l) (sym left) in
+        ap (λ (l : List ℕ). a ∷ b ∷ c ∷ d ∷ k ∷ l) (sym (take-append-drop m tail)) ∙ ap (λ (l : List ℕ). l ++ drop m tail) (sym frame) ∙ ap (λ (l : List ℕ). frame_of k fs ++ l) (sym left) in
         let long : size ≡ suc (suc (suc (suc (length (k ∷ fs))))) = omega (arith, end, count') in
         record { kind = k; fits = was.fits; parts = both; ends = long }
       where
@@ -176,9 +176,12 @@ pub only-front : {Item : Type 0} (rules : Rules Item) (fields : ℕ → Item →
 only-front {Item} rules fields Fits law kind other x y more rest fits fits' e =
     let one = reads-back rules fields Fits law kind x 0 more fits in
     let two = reads-back rules fields Fits law other y 0 rest fits' in
-    let same = whole-parts x y (length (frame_of kind (fields kind x))) (length (frame_of other (fields other y))) (sym one ∙ ap (λ (l : List ℕ). next_frame rules 0 l) e ∙ two) in
-    (ap (λ (l : List ℕ). slice_index l 4) e, same.0, sym (drop_at (frame_of kind (fields kind x)) more (length (frame_of kind (fields kind x))) refl) ∙ ap (λ (l : List ℕ). drop (length (frame_of kind (fields kind x))) l) e
-        ∙ drop_at (frame_of other (fields other y)) rest (length (frame_of kind (fields kind x))) (sym same.1))
+    let same = whole-parts x y (length (frame_of kind (fields kind x))) (length (frame_of other (fields other y))) (sym one ∙ ap (λ (l : List ℕ). next_frame rules 0 l) e ∙ two) in (
+      ap (λ (l : List ℕ). slice_index l 4) e,
+      same.0,
+      sym (drop_at (frame_of kind (fields kind x)) more (length (frame_of kind (fields kind x))) refl) ∙ ap (λ (l : List ℕ). drop (length (frame_of kind (fields kind x))) l) e
+          ∙ drop_at (frame_of other (fields other y)) rest (length (frame_of kind (fields kind x))) (sym same.1),
+    )
 
 -- ---- Streams
 
