@@ -546,7 +546,9 @@ mod tests {
         let text = format!(in rt.alloc(); "client 5\nfirst 9\n{REPLICAS}")?;
         let client = read_client(rt.alloc(), text.as_bytes())?;
         assert_eq!(rt; (client.client, client.first), (5, 9));
-        assert_eq!(rt; client.replicas.as_slice()[0].host, [127, 0, 0, 1]);
+        let hosts = client.replicas.as_slice();
+        assert_eq!(rt; hosts.len(), 3);
+        assert_eq!(rt; hosts[0].host, [127, 0, 0, 1]);
         Ok(())
     }
 
