@@ -1,7 +1,7 @@
 -- Lives that begin on machines.
-use Rattle.std.proofs.Common.{◌≡◌, ◌⊎◌, inl, inr, ⊎_elim, ◌∙◌, ℕ, Bool, true, false, List, refl, sym, ap, subst}
-use Rattle.std.specs.Prelude.{Option, Some, None, Result, Ok, Err, IfOk}
-use Rattle.stable_store.specs.Slots.{IsTied, Loads, TiedFrom, held, tie_in}
+use Rattle.std.proofs.Common.{◌≡◌, ℕ, true, List, refl, sym, ap, subst}
+use Rattle.std.specs.Prelude.{Option, Some, Result, Ok, Err, IfOk}
+use Rattle.stable_store.specs.Slots.{Loads}
 use Rattle.protocol_core.specs.declared.act.Act.{Act}
 use Rattle.protocol_core.specs.declared.config.Config.{Config}
 use Rattle.protocol_core.specs.Starting.{opening}
@@ -16,8 +16,7 @@ use Rattle.replica_node.specs.Steps.{Steps}
 use Rattle.schedules.specs.declared.line.Word.{Word}
 use Rattle.schedules.specs.declared.line.Word.TheVariants.{Done}
 use Rattle.cluster.specs.declared.machine.Answer.{Answer}
-use Rattle.protocol_stage.specs.Running.{LeftAtStart}
-use Rattle.cluster.specs.Machine.{IsOwn, Machine, cluster_number}
+use Rattle.cluster.specs.Machine.{Machine}
 use Rattle.cluster.specs.Machines.{BeginsBy, is_answered, IsAnswered, KeepsDisk, StepsIf, stored_on}
 
 -- a life begins on a machine, where there is an opening
@@ -50,53 +49,3 @@ step_taken at m a stepped after disk new (Ok did) up does keeps answered new_is 
       answers answer.StoreFault word acts h = absurd h
       answers answer.NoMemory word acts h = absurd h
 step_taken at m a stepped after disk new (Err e) up does keeps answered new_is = tt
-
--- ---- What a start leaves on a disk in memory
-
-module _ (config : Config) (old new : List ℕ) where
-  -- the disk is not tied to another cluster, where it was not
-  pub own_after_start : config.cluster ≡ cluster_number → IsOwn old → LeftAtStart config (Some old) (λ image. image ≡ old) new → IsOwn new
-  own_after_start cluster own left = ⊎_elim tied_before (λ begun. inl (begun.0 ∙ same)) left
-    where
-      same : Some config.cluster ≡ Some cluster_number
-      same = ap (λ (k : ℕ). Some k) cluster
-
-      tied_before : TiedFrom config.cluster (Some old) (λ image. image ≡ old) new → IsOwn new
-      tied_before t = ⊎_elim stays (λ changed. ⊎_elim (λ tied. inl (tied ∙ same)) (λ free. inr free) changed.1) t.tie
-        where
-          stays : tie_in new ≡ tie_in t.old → IsOwn new
-          stays is = ⊎_elim (λ tied. inl (is ∙ ap tie_in t.was ∙ tied)) (λ free. inr (is ∙ ap tie_in t.was ∙ free)) own
-
-  -- and it holds the number that it held, where no life begins
-  pub stored_after_none : opening config (stored_on old) ≡ None → LeftAtStart config (Some old) (λ image. image ≡ old) new → stored_on new ≡ stored_on old
-  stored_after_none none left = ⊎_elim before (λ begun. loaded begun.1.0 (begun.1.1 old refl) begun.1.2.one) left
-    where
-      before : TiedFrom config.cluster (Some old) (λ image. image ≡ old) new → stored_on new ≡ stored_on old
-      before t = ap held (λ k. record { first = t.first k; second = t.second k; tie = None }) ∙ ap stored_on t.was
-
-      loaded : (stored : Option ℕ) → Loads old stored → Loads new stored ⊎ ((opened : Turned) × (opening config stored ≡ Some opened) × Loads new (Some opened.life.stable)) → stored_on new ≡ stored_on old
-      loaded stored holds (inl same) = same.1 ∙ sym holds.1
-      loaded stored holds (inr begins) = absurd (not_both (ap (opening config) holds.1 ∙ begins.1) none)
-        where
-          not_both : opening config (stored_on old) ≡ Some begins.0 → opening config (stored_on old) ≡ None → ⊥
-          not_both is isnt = absurd cc
-
--- ---- What a step leaves
-
--- a replica that is up after a step was up before it
-pub up_before : (at : Stage) (old : Whole) (stepped : Stepped) (new : Whole) → Steps at old stepped new → new.down ≡ false → old.down ≡ false
-up_before at old (answer.Done acts) new h up = h.before
-up_before at old answer.Empty new h up = h.before
-up_before at old answer.Full new h up = h.before
-up_before at old answer.Down new h up = ap (λ (a : Whole). a.down) (sym h.1) ∙ up
-up_before at old answer.StoreFault new h up = absurd (not_both (sym h.0.after ∙ up)) where
-  not_both : true ≡ false → ⊥
-  not_both is = absurd cc
-up_before at old answer.NoMemory new h up = absurd (not_both (sym h.after ∙ up)) where
-  not_both : true ≡ false → ⊥
-  not_both is = absurd cc
-
--- the disk is not tied to another cluster, where the replica was down, or was one of the cluster
-pub own_after_step : (down : Bool) (cluster : ℕ) (old new : List ℕ) → IsOwn old → (down ≡ true → new ≡ old) → (down ≡ false → IsTied (Some cluster) new) → (down ≡ false → cluster ≡ cluster_number) → IsOwn new
-own_after_step true cluster old new own stays tied number = subst IsOwn (sym (stays refl)) own
-own_after_step false cluster old new own stays tied number = inl (tied refl ∙ ap (λ (k : ℕ). Some k) (number refl))

@@ -1,10 +1,9 @@
 -- A start of a replica is that of the model.
-use Rattle.std.proofs.Common.{◌≡◌, ℕ, zero, suc, false, ◌+◌, ◌≤◌, ◌<◌, List, [], ◌++◌, length, replicate, slice_get, Option, Some, None, refl, sym, ap, subst, ◌∙◌, arith}
+use Rattle.std.proofs.Common.{◌≡◌, ℕ, zero, suc, ◌+◌, ◌≤◌, ◌<◌, List, [], ◌++◌, length, replicate, slice_get, Option, Some, None, refl, sym, ap, subst, ◌∙◌, arith}
 use Rattle.std.proofs.Math.Bridge.{le_prop}
 use Rattle.std.proofs.lemmas.List.{length-replicate}
 use Rattle.std.proofs.lemmas.Option.{slice_get_within}
 use mathlib.Core.HLevel.{is_prop→PathP}
-use Rattle.jp_types.specs.Views.{number_limit}
 use Rattle.paxos_world.specs.Replica.{Running, started}
 use Rattle.paxos_world.specs.Stage.{free_slots}
 use Rattle.paxos_world.specs.Stage as model
@@ -16,7 +15,7 @@ use Rattle.protocol_core.specs.declared.act.Act.{Act}
 use Rattle.protocol_core.specs.declared.config.Config.{Config}
 use Rattle.protocol_core.specs.declared.life.Life.{Life}
 use Rattle.protocol_laws.specs.Coming.{SendsFitly}
-use Rattle.protocol_laws.specs.Keeping.{Constants, config_of}
+use Rattle.protocol_laws.specs.Keeping.{IsWithin, config_of}
 use Rattle.protocol_laws.specs.Laws as laws
 use Rattle.protocol_laws.proofs.Whole.{openings_alike}
 use Rattle.protocol_stage.specs.Following.{model_config}
@@ -32,7 +31,7 @@ use Rattle.schedules.specs.declared.line.Head.{Head}
 use Rattle.schedules.specs.declared.line.Word.{Word}
 use Rattle.schedules.specs.declared.line.Word.TheVariants.{Done, Down, Up}
 use Rattle.stable_store.specs.Slots.{gate_in}
-use Rattle.cluster.specs.Machine.{Machine, cluster_number}
+use Rattle.cluster.specs.Machine.{Machine}
 use Rattle.cluster.specs.Machines.{fresh_machine, stored_on, BeginsOn, BeginsNot, BeginsBy, StartsOn}
 use Rattle.cluster.specs.Resembling.{IsPlace, IsPlaced, IsCluster, Alike}
 use Rattle.cluster.specs.Stepping.{Stepping, Outcome, IsConfigAt, StartsIf, acted}
@@ -42,17 +41,17 @@ use Rattle.cluster.proofs.Going.{both-there, refused-alike, stays-alike, done-al
 
 -- ---- Constants
 
--- the constants of a replica that the model has not
-constants-of : (head : Head) (r : ℕ) → IsHead head → r < head.n → Constants (cluster.config_of head r)
-constants-of head r h below = record { cluster = cluster_number; old = false; limits = (h.some, h.few, below, h.open_window, h.window_limit, omega arith, omega arith) }
+-- the constants of a replica are within their limits
+within-head : (head : Head) (r : ℕ) → IsHead head → r < head.n → IsWithin (cluster.config_of head r)
+within-head head r h below = (h.some, h.few, below, h.open_window, h.window_limit)
 
 -- the constants of a replica in the code are those of the model
-config-is : (head : Head) (r : ℕ) (config : Config) (within : IsHead head) (below : r < head.n) → IsConfigAt head r config → config_of (cluster.config_of head r) (constants-of head r within below) ≡ config
-config-is head r config within below h =
-    λ k. record { n = sym h.n_is k; me = sym h.me_is k; mode = sym h.mode_is k; window = sym h.window_is k; cluster = sym h.cluster_is k; old = sym h.old_is k; valid = is_prop→PathP valid (λ j p q i. (le_prop p.0 q.0 i, le_prop p.1 q.1 i, le_prop p.2 q.2 i, le_prop p.3 q.3 i, le_prop p.4 q.4 i, le_prop p.5 q.5 i, le_prop p.6 q.6 i)) (constants-of head r within below).limits config.valid k }
+config-is : (head : Head) (r : ℕ) (config : Config) (within : IsWithin (cluster.config_of head r)) → IsConfigAt head r config → config_of (cluster.config_of head r) within ≡ config
+config-is head r config within h =
+    λ k. record { n = sym h.n_is k; me = sym h.me_is k; mode = sym h.mode_is k; window = sym h.window_is k; valid = is_prop→PathP valid (λ j p q i. (le_prop p.0 q.0 i, le_prop p.1 q.1 i, le_prop p.2 q.2 i, le_prop p.3 q.3 i, le_prop p.4 q.4 i)) within config.valid k }
   where
     valid : 𝕀 → Type 0
-    valid j = (3 ≤ sym h.n_is j) × (sym h.n_is j ≤ 9) × (sym h.me_is j < sym h.n_is j) × (1 ≤ sym h.window_is j) × (sym h.window_is j ≤ 64) × (1 ≤ sym h.cluster_is j) × (sym h.cluster_is j ≤ number_limit)
+    valid j = (3 ≤ sym h.n_is j) × (sym h.n_is j ≤ 9) × (sym h.me_is j < sym h.n_is j) × (1 ≤ sym h.window_is j) × (sym h.window_is j ≤ 64)
 
 -- the constants of a replica in the model are those of the code
 model-config-is : (head : Head) (r : ℕ) (config : Config) → IsConfigAt head r config → model_config config ≡ cluster.config_of head r
@@ -102,14 +101,14 @@ module _ (c : Cluster) (s : Stepping) (r : ℕ) (place : Place) (config : Config
   unopened : IsHead c.head → opening config (stored_on m.disk) ≡ None → made ≡ None
   unopened head none = none-made made both
     where
-      below : r < c.head.n
-      below = subst (λ k. r < k) h.count (slice_get_within c.places r place there)
+      within : IsWithin (cluster.config_of c.head r)
+      within = within-head c.head r head (subst (λ k. r < k) h.count (slice_get_within c.places r place there))
 
-      same : opening (config_of (cluster.config_of c.head r) (constants-of c.head r head below)) place.stable ≡ None
-      same = (λ k. opening (config-is c.head r config head below constants k) (sym is-placed.stored k)) ∙ none
+      same : opening (config_of (cluster.config_of c.head r) within) place.stable ≡ None
+      same = (λ k. opening (config-is c.head r config within constants k) (sym is-placed.stored k)) ∙ none
 
       both : laws.AreAlike (cluster.config_of c.head r) free_slots made None
-      both = subst (λ (o : Option Turned). laws.AreAlike (cluster.config_of c.head r) free_slots made o) same (openings_alike (cluster.config_of c.head r) (constants-of c.head r head below) free_slots (suc place.starts) place.stable)
+      both = subst (λ (o : Option Turned). laws.AreAlike (cluster.config_of c.head r) free_slots made o) same (openings_alike (cluster.config_of c.head r) within free_slots (suc place.starts) place.stable)
 
       none-made : (o : Option model_turn.Opened) → laws.AreAlike (cluster.config_of c.head r) free_slots o None → o ≡ None
       none-made None alike = refl

@@ -25,7 +25,7 @@ use Rattle.cluster.specs.Machine.{Machine}
 
 -- how many bytes a disk has
 abbrev pub disk_length : ℕ
-disk_length = 27
+disk_length = 18
 
 -- a machine before its replica's first start: its disk has zero bytes
 abbrev pub fresh_machine : Machine
@@ -124,7 +124,6 @@ stored_on disk = held (slots_in disk)
 abbrev pub NotBegun : Config → List ℕ → StartFault → List ℕ → Type 0
 NotBegun config before StartFault.StoreFault after = ⊥
 NotBegun config before (StartFault.Damaged count) after = ⊥
-NotBegun config before (StartFault.OtherCluster kept) after = ⊥
 NotBegun config before (StartFault.Spent number) after =
     (opening config (stored_on before) ≡ None) × (stored_on before ≡ Some number) × (stored_on after ≡ Some number)
 NotBegun config before StartFault.NoMemory after = Unit {0}

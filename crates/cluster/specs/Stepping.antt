@@ -1,5 +1,5 @@
 -- What happens at a line of a schedule, where each replica runs on a machine of its own.
-use Rattle.std.specs.Prelude.{◌≡◌, ℕ, zero, suc, false, List, [], ◌∷◌, ◌++◌, length, replicate, if◌then◌else◌, Option, Some, None, slice_get, slice_set, map}
+use Rattle.std.specs.Prelude.{◌≡◌, ℕ, zero, suc, List, [], ◌∷◌, ◌++◌, length, replicate, if◌then◌else◌, Option, Some, None, slice_get, slice_set, map}
 use Rattle.paxos_world.specs.declared.step.Step.{Step}
 use Rattle.batcher.specs.declared.fed.Fed.{Fed}
 use Rattle.protocol_core.specs.declared.act.Act.{Act}
@@ -16,7 +16,7 @@ use Rattle.schedules.specs.declared.line.Head.{Head}
 use Rattle.schedules.specs.declared.line.Line.{Line}
 use Rattle.schedules.specs.declared.line.Word.{Word}
 use Rattle.schedules.specs.declared.line.Word.TheVariants.{Done, Full, Down, Up, Unsent}
-use Rattle.cluster.specs.Machine.{Machine, cluster_number}
+use Rattle.cluster.specs.Machine.{Machine}
 use Rattle.cluster.specs.declared.sent.Sent.{Sent}
 use Rattle.cluster.specs.Frames.{addressed, shown_by, sent_by}
 use Rattle.cluster.specs.Machines.{fresh_machine, with_lane_item, has_full_lane, with_tick, StepsOn, StartsOn, last_of}
@@ -56,8 +56,6 @@ pub record IsConfigAt (head : Head) (r : ℕ) (config : Config) : Type 0 where
   pub me_is : config.me ≡ r
   pub mode_is : config.mode ≡ head.mode
   pub window_is : config.window ≡ head.window
-  pub cluster_is : config.cluster ≡ cluster_number
-  pub old_is : config.old ≡ false
 
 -- ---- Outcomes
 

@@ -24,7 +24,7 @@ ghost use Rattle.cluster.specs.Machines.{
   word_for_item,
   word_for_tick,
 };
-ghost use Rattle.cluster.specs.Machine.{IsOwn, IsSound, cluster_number};
+ghost use Rattle.cluster.specs.Machine.{IsSound};
 
 use batcher::fed::Fed;
 use jp_types::listed::Listed;
@@ -43,10 +43,7 @@ use std::alloc::Global;
 use std::marker::Model;
 
 /// How many bytes a disk has.
-const DISK_LENGTH: usize = 27;
-
-/// The number of the cluster that is run.
-pub const CLUSTER: u64 = 1;
+const DISK_LENGTH: usize = 18;
 
 /// A disk, which outlives the lives of its replica, and what is up on it, if the replica is up.
 #[derive(Drop)]
@@ -142,7 +139,6 @@ impl Machine {
 
     /// Begins the next life, where the replica is down. Where the disk holds the last number that there is, none begins.
     pub fn start(&mut self, alloc: Global, config: &Config) -> Result<Answer, NoMemory>
-        requires { config.now.cluster ≡ cluster_number }
         ensures { IfOk result (λ did. StartsOn config.now self.old self.old.running did.word did.acts self.new) }
     {
         if self.running.is_some() {
@@ -154,8 +150,7 @@ impl Machine {
     // Begins the next life.
     #[tactic(auto, using(crate::proofs::MachineLemmas::life_begins))]
     fn begin(&mut self, alloc: Global, config: &Config) -> Result<Answer, NoMemory>
-        requires down { self.old.running ≡ None }
-        requires cluster { config.now.cluster ≡ cluster_number }
+        requires { self.old.running ≡ None }
         ensures { IfOk result (λ did. StartsOn config.now self.old None did.word did.acts self.new) }
     {
         match start_over(alloc, config, &mut self.disk) {
@@ -211,20 +206,17 @@ fn step_over(replica: &mut Replica, stage: Stage, disk: &mut MemoryDisk) -> Step
     replica.step(stage, disk)
 }
 
-// The next life over a disk in memory, no call of which fails, which is not damaged, and which is no other cluster's.
+// The next life over a disk in memory, no call of which fails, and which is not damaged.
 fn start_over(
     alloc: Global,
     config: &Config,
     disk: &mut MemoryDisk,
 ) -> Result<(Replica, Listed<Act>), StartFault>
-    requires length { length disk.old ≡ disk_length }
-    requires own { IsOwn disk.old }
-    requires cluster { config.now.cluster ≡ cluster_number }
+    requires { length disk.old ≡ disk_length }
     ensures begins { IfOk result (λ begun. Begins config.now (stored_on disk.old) begun.0 begun.1) }
     ensures loads { IfOk result (λ begun. Loads disk.new (Some begun.0.stages.protocol.life.stable)) }
     ensures sound { IfOk result (λ begun. IsSound disk.new (Some begun.0)) }
     ensures length { length disk.new ≡ disk_length }
-    ensures own { IsOwn disk.new }
     ensures err { IfErr result (λ fault. NotBegun config.now disk.old fault disk.new) }
 {
     Replica::start(alloc, config, disk)

@@ -30,7 +30,7 @@ ghost use Rattle.cluster.specs.Stepping.{
   up_on,
 };
 
-use crate::machine::{Answer, CLUSTER, Machine};
+use crate::machine::{Answer, Machine};
 use crate::sent::{Sent, SentMessages};
 use batcher::fed::Fed;
 use jp_types::command::Request;
@@ -122,8 +122,6 @@ fn config_of(head: &Head, me: ReplicaId) -> Config
         me,
         mode: head.mode,
         window: head.window,
-        cluster: CLUSTER,
-        old: false,
     }
 }
 

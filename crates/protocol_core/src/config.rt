@@ -2,7 +2,7 @@
 
 ghost use Rattle.std.specs.Prelude.{◌≡◌, ◌≤◌, ◌<◌, ◌==◌, ◌+◌, ◌-◌, ◌%◌};
 ghost use Rattle.jp_types.specs.Instances.{peer};
-ghost use Rattle.jp_types.specs.Views.{leader, next_led, number_limit};
+ghost use Rattle.jp_types.specs.Views.{leader, next_led};
 ghost use Rattle.protocol_core.specs.Others.{others_below, queries_after};
 
 use catch_up::query::peer;
@@ -20,11 +20,7 @@ pub struct Config {
     pub mode: Mode,
     /// How many instances may be undecided at a time.
     pub window: u8,
-    /// The number of the cluster, 1 to 2^48.
-    pub cluster: u64,
-    /// Whether frames of the older version, which name no cluster, are read.
-    pub old: bool,
-    ghost valid: { (3 ≤ n) × (n ≤ 9) × (me < n) × (1 ≤ window) × (window ≤ 64) × (1 ≤ cluster) × (cluster ≤ number_limit) },
+    ghost valid: { (3 ≤ n) × (n ≤ 9) × (me < n) × (1 ≤ window) × (window ≤ 64) },
 }
 
 impl Config {

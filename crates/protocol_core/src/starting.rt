@@ -146,8 +146,6 @@ mod tests {
             me: me.min(2),
             mode,
             window: 8,
-            cluster: 1,
-            old: false,
         };
         let (life, acts) = start(alloc, config, stored)?;
         Ok((life.mark, life.view, acts.as_slice().len()))

@@ -171,8 +171,6 @@ mod tests {
             me: me.min(2),
             mode,
             window: 4,
-            cluster: 1,
-            old: false,
         }
     }
 

@@ -72,7 +72,7 @@ keeps-promise : (s : Stage) (from : LifeId) (m : PrepareOk) (c : Cores s) (first
 keeps-promise s from m c first may leads_so =
     let d : Cores (stage_after s (Deed.Take from (Message.PrepareOk m)))
     = record {
-      constants = c.constants;
+      within = c.within;
       log = c.log;
       promises = (after_promise q from.replica m).held;
       answers = c.answers;
@@ -211,7 +211,7 @@ keeps-answer s from m c may recovering marked =
     let led = c.fit.led recovering in
     let d : Cores (stage_after s (Deed.Take from (Message.RecoveryAnswer m)))
     = record {
-      constants = c.constants;
+      within = c.within;
       log = c.log;
       promises = c.promises;
       answers = (after_answer k from.replica m).answers;
@@ -331,7 +331,7 @@ keeps-answered : (s : Stage) (p view : ℕ) (next : Option ℕ) (mark : ℕ) (c 
 keeps-answered s p view next mark c =
     let d : Cores (stage_after s (Deed.Answer p view next mark))
     = record {
-      constants = c.constants;
+      within = c.within;
       log = c.log;
       promises = c.promises;
       answers = c.answers;

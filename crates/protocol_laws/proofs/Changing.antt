@@ -74,7 +74,7 @@ module _ (s : Stage) (c : Cores s) (d : Changed) where
       → (is_recovering s.life.phase ≡ true → d.leading ≡ No) → s.life.view ≤ d.view → Cores (changed s d)
   with-change promises places promised led up =
       record {
-        constants = c.constants;
+        within = c.within;
         log = c.log;
         promises = promises;
         answers = c.answers;

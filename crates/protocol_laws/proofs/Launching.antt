@@ -47,7 +47,7 @@ learned-cores s c i batch slots proposes =
     let fit = c.fit in
     let sane = fit.sane in
     record {
-      constants = c.constants;
+      within = c.within;
       log = with_known c.log i batch;
       promises = c.promises;
       answers = c.answers;
@@ -189,12 +189,12 @@ prepares-before (Leads lead) i first e = absurd cc
 abbrev launched-cores : (t : model.Turned) (c : Cores t.stage) (i : ℕ) (batch : Batch) → nat_lt i (logs.span_end t.stage) ≡ true → Cores (unsent i batch t).stage
 launched-cores t c i batch lt =
     let s = t.stage in
-    let me = c.constants.limits.2 in
+    let me = c.within.2 in
     let k = kept-acceptance s c.log i batch c.kept me lt in
     let fit = c.fit in
     let sane = fit.sane in
     record {
-      constants = c.constants;
+      within = c.within;
       log = launching.after_own_acceptance c.log i s.life.view s.config.me batch;
       promises = c.promises;
       answers = c.answers;

@@ -33,7 +33,7 @@ abbrev pub cores-relogged : (s : Stage) (c : Cores s) (votes : ℕ → Option (�
     → KeepsLog (relogged s votes known noted slots proposes) log → AreOf s.config.n noted → Cores (relogged s votes known noted slots proposes)
 cores-relogged s c votes known noted slots proposes log kept of =
     record {
-      constants = c.constants;
+      within = c.within;
       log = log;
       promises = c.promises;
       answers = c.answers;

@@ -26,7 +26,7 @@ use Rattle.protocol_core.specs.Starting.{new_life, led, recovery_of, opened}
 use Rattle.protocol_core.specs.Turned.{Turned, stay}
 use Rattle.protocol_laws.specs.Coming.{IsSendable}
 use Rattle.protocol_laws.specs.Following.{Follows}
-use Rattle.protocol_laws.specs.Keeping.{Constants, config_of, IsFit, Cores, life_in, KeepsLife}
+use Rattle.protocol_laws.specs.Keeping.{IsWithin, config_of, IsFit, Cores, life_in, KeepsLife}
 use Rattle.protocol_laws.specs.Laws.{BeginsAlike, AreAlike, OpeningsAlike}
 use Rattle.protocol_laws.proofs.Goes.{GoesPhase1}
 use Rattle.protocol_laws.proofs.Others.{and-armed, rearmed}
@@ -37,10 +37,10 @@ length-replicate zero x = refl
 length-replicate (suc n) x = ap suc (length-replicate n x)
 
 -- the cores of a life that begins so
-abbrev cores-at-start : (c : Config) → Constants c → (slots : List Slot) (number mark : ℕ) (phase : Phase) (view : ℕ) → Cores (stage_at_start c slots number mark phase view)
-cores-at-start c constants slots number mark phase view =
+abbrev cores-at-start : (c : Config) → IsWithin c → (slots : List Slot) (number mark : ℕ) (phase : Phase) (view : ℕ) → Cores (stage_at_start c slots number mark phase view)
+cores-at-start c within slots number mark phase view =
     record {
-      constants = constants;
+      within = within;
       log = new_log c.n;
       promises = no_replies c.n;
       answers = no_replies c.n;
@@ -55,7 +55,7 @@ cores-at-start c constants slots number mark phase view =
     fit : IsFit (stage_at_start c slots number mark phase view)
     fit =
         record {
-          sane = starts_kept.sane c slots number mark phase view constants.limits.1 constants.limits.2;
+          sane = starts_kept.sane c slots number mark phase view within.1 within.2;
           led = λ e. refl;
           untaken = λ e t m. absurd m;
           below = λ t v m e. absurd m;
@@ -64,18 +64,18 @@ cores-at-start c constants slots number mark phase view =
           joiner = λ j e. absurd cc;
         }
 
-module _ (c : Config) (constants : Constants c) (slots : List Slot) (number : ℕ) where
+module _ (c : Config) (within : IsWithin c) (slots : List Slot) (number : ℕ) where
   -- the stage and the life that begin with this mark
   abbrev stage-at : ℕ → Phase → ℕ → Stage
   stage-at mark phase view = stage_at_start c slots number mark phase view
 
   abbrev life-at : ℕ → Phase → ℕ → Life
-  life-at mark phase view = new_life (config_of c constants) (started c.mode c.me mark phase view)
+  life-at mark phase view = new_life (config_of c within) (started c.mode c.me mark phase view)
 
   at-start : (mark : ℕ) (phase : Phase) (view : ℕ) → KeepsLife (stage-at mark phase view) (life-at mark phase view)
   at-start mark phase view =
       let v = starts_kept.vector c number mark phase view in
-      record { cores = cores-at-start c constants slots number mark phase view; is = λ k. record { config = config_of c constants; phase = phase; mark = mark; view = view; stable = mark; vector = v k; log = new_log c.n; proposer = (life-at mark phase view).proposer; rejoiner = (life-at mark phase view).rejoiner; horizon = 0; quiet = 0; queries = 0; waiting = []; newest = None; joiner = None; handed = 0 } }
+      record { cores = cores-at-start c within slots number mark phase view; is = λ k. record { config = config_of c within; phase = phase; mark = mark; view = view; stable = mark; vector = v k; log = new_log c.n; proposer = (life-at mark phase view).proposer; rejoiner = (life-at mark phase view).rejoiner; horizon = 0; quiet = 0; queries = 0; waiting = []; newest = None; joiner = None; handed = 0 } }
 
   -- a start so far: the mark is saved, and the step is shown
   abbrev begun-at : ℕ → Phase → ℕ → Step → model.Turned
@@ -94,7 +94,7 @@ module _ (c : Config) (constants : Constants c) (slots : List Slot) (number : �
 
   module _ (phase-1 : GoesPhase1) where
     -- the first start
-    first : AreAlike c slots (Some (model_turn.first_start c slots number)) (Some (opened (config_of c constants) (started c.mode c.me (first_mark c.mode) Working 0)))
+    first : AreAlike c slots (Some (model_turn.first_start c slots number)) (Some (opened (config_of c within) (started c.mode c.me (first_mark c.mode) Working 0)))
     first =
         let mark = first_mark c.mode in
         let t = begun-at mark Working 0 (Step.First c.me) in
@@ -113,7 +113,7 @@ module _ (c : Config) (constants : Constants c) (slots : List Slot) (number : �
       (and-armed t (says_to_all m t) (t ▹ says_to_all m ▹ arms_recovery m) _ h Topic.Recovery m refl (rearmed (says_to_all m t).stage _ _ _ _ _ (life_in t.stage d) h.keeps) refl refl refl refl may)
 
   -- a later start
-  later : (mark : ℕ) → AreAlike c slots (Some (model_turn.later_start c slots number mark)) (Some (opened (config_of c constants) (started c.mode c.me mark Recovering (view_at_return c.mode mark))))
+  later : (mark : ℕ) → AreAlike c slots (Some (model_turn.later_start c slots number mark)) (Some (opened (config_of c within) (started c.mode c.me mark Recovering (view_at_return c.mode mark))))
   later mark =
       let view = view_at_return c.mode mark in
       let t = begun-at mark Recovering view (Step.Return c.me mark) in
@@ -124,9 +124,9 @@ module _ (c : Config) (constants : Constants c) (slots : List Slot) (number : �
 
 pub openings_alike : GoesPhase1 → OpeningsAlike
 unfolding model_turn.opening
-openings_alike phase-1 c constants slots number None = first c constants slots number phase-1
-openings_alike phase-1 c constants slots number (Some stored) = go (return_mark c.mode c.n c.me stored)
+openings_alike phase-1 c within slots number None = first c within slots number phase-1
+openings_alike phase-1 c within slots number (Some stored) = go (return_mark c.mode c.n c.me stored)
   where
-    go : (o : Option ℕ) → AreAlike c slots (option_map (model_turn.later_start c slots number) o) (option_map (opened (config_of c constants)) (option_map (λ (mark : ℕ). started c.mode c.me mark Recovering (view_at_return c.mode mark)) o))
+    go : (o : Option ℕ) → AreAlike c slots (option_map (model_turn.later_start c slots number) o) (option_map (opened (config_of c within)) (option_map (λ (mark : ℕ). started c.mode c.me mark Recovering (view_at_return c.mode mark)) o))
     go None = tt
-    go (Some mark) = later c constants slots number mark
+    go (Some mark) = later c within slots number mark

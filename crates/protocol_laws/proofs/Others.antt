@@ -132,7 +132,7 @@ rearmed s slots prepare recovery query proposes life h =
     } in
     record {
       cores = record {
-        constants = c.constants;
+        within = c.within;
         log = c.log;
         promises = c.promises;
         answers = c.answers;

@@ -50,7 +50,7 @@ prepared-cores first t c e =
     let k = c.kept in
     let f = c.fit in
     record {
-      constants = c.constants;
+      within = c.within;
       log = c.log;
       promises = no_replies t.stage.config.n;
       answers = c.answers;

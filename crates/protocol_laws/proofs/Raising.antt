@@ -57,8 +57,8 @@ goes-arms_prepare t c m may =
       config = refl;
       keeps = record { cores = same-led s c s.stable s.horizon s.quiet s.queries s.waiting armed; is = refl };
       acts = sym (append-nil t.acts);
-      arming = ap (λ (to : List ℕ). armed_for Topic.Prepare (record { message = m; to = to }) (arming_of s)) (sym (others-alike s.config.n s.config.me c.constants.limits.1));
-      sends = (armed-fits s.config m c.constants.limits.1 may, tt);
+      arming = ap (λ (to : List ℕ). armed_for Topic.Prepare (record { message = m; to = to }) (arming_of s)) (sym (others-alike s.config.n s.config.me c.within.1));
+      sends = (armed-fits s.config m c.within.1 may, tt);
       handed = le_refl _;
       hands = tt;
       service = refl;

@@ -43,7 +43,7 @@ due-alike s c = go (is_recovering s.life.phase) refl
     go true e =
         let keeps : KeepsAnswers (setup_of s.config) s.config.me s.life (vector_of s) c.answers = record { vector = refl; none = (c.answered e).none; held = (c.answered e).held } in
         ap (λ (u : ℕ). core.rejoin_view (vector_of s) k u) (logs_are_read s c.log c.kept).first_undecided
-        ∙ rejoins_alike s (vector_of s) k c.constants.limits.0 c.constants.limits.1 e c.answer_places keeps
+        ∙ rejoins_alike s (vector_of s) k c.within.0 c.within.1 e c.answer_places keeps
     go false e =
         let view = settling.highest_answered s.config.n s in
         let ready = settling.is_leader_ready (settling.answer_from s (leader s.config.n view)) view (logs.first_undecided s) in
@@ -76,7 +76,7 @@ keeps-rejoined s view c e =
     let led = c.fit.led e in
     let d : Cores (rejoined s view)
     = record {
-      constants = c.constants;
+      within = c.within;
       log = c.log;
       promises = c.promises;
       answers = c.answers;

@@ -35,7 +35,7 @@ abbrev pub other-cores : (s : Stage) (c : Cores s) (waiting : List Batch) (joine
     → Cores (other-stage s waiting joiner handed slots query)
 other-cores s c waiting joiner handed slots query fits le =
     record {
-      constants = c.constants;
+      within = c.within;
       log = c.log;
       promises = c.promises;
       answers = c.answers;
@@ -79,7 +79,7 @@ abbrev pub cut-cores : (s : Stage) (c : Cores s) (base : ℕ) (snapshot : model.
     → length snapshot.bytes ≤ 2 ^ 28 → (snapshot.installed ≡ false → snapshot.place ≤ s.handed) → Cores (cut-stage s base snapshot floor installed slots query)
 cut-cores s c base snapshot floor installed slots query le up small own =
     record {
-      constants = c.constants;
+      within = c.within;
       log = above c.log base;
       promises = c.promises;
       answers = c.answers;

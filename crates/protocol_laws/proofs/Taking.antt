@@ -33,7 +33,7 @@ pub keeps-beside : (s : Stage) (stable horizon quiet : ℕ) (c : Cores s)
 keeps-beside s stable horizon quiet c =
     let d : Cores (record s { stable = stable; horizon = horizon; quiet = quiet })
     = record {
-      constants = c.constants;
+      within = c.within;
       log = c.log;
       promises = c.promises;
       answers = c.answers;
@@ -97,7 +97,7 @@ pub keeps-other : (s : Stage) (from : LifeId) (m : Message) (c : Cores s) → ow
 keeps-other s from m c no-ok no-answer =
     let d : Cores (stage_after s (Deed.Take from m))
     = record {
-      constants = c.constants;
+      within = c.within;
       log = c.log;
       promises = c.promises;
       answers = c.answers;

@@ -159,13 +159,13 @@ goes-query-from t c =
     armed members = armed_for Topic.Query (record { message = catching.query_of (logs.first_undecided s); to = members }) (cancelled_for Topic.Query (arming_of s))
 
     inside : to < s.config.n
-    inside = peer-below s.config.me s.config.n s.queries c.constants.limits.0
+    inside = peer-below s.config.me s.config.n s.queries c.within.0
 
     apart : to ≢ s.config.me
-    apart = peer-other s.config.me s.config.n s.queries c.constants.limits.0 c.constants.limits.2
+    apart = peer-other s.config.me s.config.n s.queries c.within.0 c.within.2
 
     lt : to < 9
-    lt = let below = inside in let nine = c.constants.limits.1 in omega arith
+    lt = let below = inside in let nine = c.within.1 in omega arith
 
     repeated : IsRepeatable s.config (record { to = with_member no_members to; message = catching.query_of (logs.first_undecided s) })
     repeated q e =

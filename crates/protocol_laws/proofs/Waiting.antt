@@ -72,7 +72,7 @@ waiting-cores s c batches =
     let fit = c.fit in
     let sane = fit.sane in
     record {
-      constants = c.constants;
+      within = c.within;
       log = c.log;
       promises = c.promises;
       answers = c.answers;

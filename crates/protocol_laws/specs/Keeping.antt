@@ -1,11 +1,10 @@
 -- When a life of the code is that of a stage of the model.
-use Rattle.std.specs.Prelude.{◌≡◌, ◌≢◌, Bool, ℕ, ◌≤◌, ◌<◌, ◌^◌, true, false, List, length, Some, None}
+use Rattle.std.specs.Prelude.{◌≡◌, ◌≢◌, ℕ, ◌≤◌, ◌<◌, ◌^◌, true, false, List, length, Some, None}
 use Rattle.std.specs.Option.{option_map}
 use Rattle.jp_types.specs.declared.message.PrepareOk.{PrepareOk}
 use Rattle.jp_types.specs.declared.message.RecoveryAnswer.{RecoveryAnswer}
 use Rattle.kv_service.specs.Parts.{Joiner, part_size}
 use Rattle.jp_types.specs.Lists.{In}
-use Rattle.jp_types.specs.Views.{number_limit}
 use Rattle.paxos_world.specs.Life.{Taken, No, Preparing}
 use Rattle.paxos_world.specs.Counting.{is_recovering, held_ok, held_answer}
 use Rattle.paxos_world.specs.CatchingUp.{place_of}
@@ -22,25 +21,23 @@ use Rattle.protocol_core.specs.declared.config.Config.{Config}
 use Rattle.protocol_core.specs.declared.life.Life.{Life}
 use Rattle.protocol_core.specs.declared.life.Snapshot.{Snapshot}
 
--- the constants of a replica that the model has not, where they and those that it has are within their limits
-pub record Constants (c : model.Config) : Type 0 where
-  pub cluster : ℕ
-  pub old : Bool
-  pub limits : (3 ≤ c.n) × (c.n ≤ 9) × (c.me < c.n) × (1 ≤ c.window) × (c.window ≤ 64) × (1 ≤ cluster) × (cluster ≤ number_limit)
+-- the constants of a replica are within their limits
+abbrev pub IsWithin : model.Config → Type 0
+IsWithin c = (3 ≤ c.n) × (c.n ≤ 9) × (c.me < c.n) × (1 ≤ c.window) × (c.window ≤ 64)
 
 -- the constants of a replica, as the code has them
-abbrev pub config_of : (c : model.Config) → Constants c → Config
-config_of c constants = record { n = c.n; me = c.me; mode = c.mode; window = c.window; cluster = constants.cluster; old = constants.old; valid = constants.limits }
+abbrev pub config_of : (c : model.Config) → IsWithin c → Config
+config_of c within = record { n = c.n; me = c.me; mode = c.mode; window = c.window; valid = within }
 
 -- a snapshot, as the code has it
 abbrev pub snapshot_of : model.Snapshot → Snapshot
 snapshot_of snapshot = record { place = snapshot.place; bytes = snapshot.bytes; installed = snapshot.installed }
 
 -- the life of a stage, with this log and these held promises and answers
-abbrev pub life_of : (s : Stage) → Constants s.config → Log → Replies PrepareOk → Replies RecoveryAnswer → Life
-life_of s constants log promises answers =
+abbrev pub life_of : (s : Stage) → IsWithin s.config → Log → Replies PrepareOk → Replies RecoveryAnswer → Life
+life_of s within log promises answers =
     record {
-      config = config_of s.config constants;
+      config = config_of s.config within;
       phase = s.life.phase;
       mark = s.life.mark;
       view = s.life.view;
@@ -91,7 +88,7 @@ pub record IsFit (s : Stage) : Type 0 where
 
 -- what the cores of a life keep, where it is that of this stage
 pub record Cores (s : Stage) : Type 0 where
-  pub constants : Constants s.config
+  pub within : IsWithin s.config
   pub log : Log
   pub promises : Replies PrepareOk
   pub answers : Replies RecoveryAnswer
@@ -104,7 +101,7 @@ pub record Cores (s : Stage) : Type 0 where
 
 -- the life of a stage with these cores
 abbrev pub life_in : (s : Stage) → Cores s → Life
-life_in s c = life_of s c.constants c.log c.promises c.answers
+life_in s c = life_of s c.within c.log c.promises c.answers
 
 -- a life is that of a stage
 pub record KeepsLife (s : Stage) (life : Life) : Type 0 where

@@ -10,7 +10,7 @@ use Rattle.protocol_core.specs.Turning.{turn}
 use Rattle.protocol_core.specs.Turned.{Turned}
 use Rattle.protocol_laws.specs.Acting.{item_of, model_acts}
 use Rattle.protocol_laws.specs.Arming.{Arming, arming_of, armed_after}
-use Rattle.protocol_laws.specs.Keeping.{Constants, config_of, KeepsLife}
+use Rattle.protocol_laws.specs.Keeping.{IsWithin, config_of, KeepsLife}
 use Rattle.protocol_laws.specs.Following.{Follows}
 use Rattle.protocol_laws.specs.Coming.{Comes, SendsFitly}
 
@@ -41,5 +41,5 @@ AreAlike c slots (Some made) None = ⊥
 
 -- a life begins where a stage does, and as it does
 abbrev pub OpeningsAlike : Type 0
-OpeningsAlike = (c : model.Config) (constants : Constants c) (slots : List Slot) (number : ℕ) (stored : Option ℕ)
-    → AreAlike c slots (model_turn.opening c slots number stored) (opening (config_of c constants) stored)
+OpeningsAlike = (c : model.Config) (within : IsWithin c) (slots : List Slot) (number : ℕ) (stored : Option ℕ)
+    → AreAlike c slots (model_turn.opening c slots number stored) (opening (config_of c within) stored)

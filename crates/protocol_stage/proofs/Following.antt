@@ -14,7 +14,7 @@ use Rattle.protocol_laws.specs.Acting.{item_of, model_acts, model_decision}
 use Rattle.protocol_laws.specs.Arming.{Arming, arming_of, armed_after}
 use Rattle.protocol_laws.specs.Coming.{Comes, SendsFitly}
 use Rattle.protocol_laws.specs.Following.{Follows}
-use Rattle.protocol_laws.specs.Keeping.{Constants, KeepsLife}
+use Rattle.protocol_laws.specs.Keeping.{KeepsLife}
 use Rattle.protocol_laws.specs.Laws.{AreAlike, BeginsAlike}
 use Rattle.protocol_laws.proofs.Whole.{turns_alike, openings_alike}
 use Rattle.protocol_stage.specs.Arming.{arming_in, IsTight, RepeatsFitly, takes_least}
@@ -26,12 +26,6 @@ use Rattle.protocol_stage.specs.Running.{IsOpened, LoadsAtOpening, Opens, Runnin
 use Rattle.protocol_stage.specs.Standing.{Lives, Stands}
 use Rattle.protocol_stage.proofs.Goals.{TurnsFollow, TurnsStable, OpensFollow}
 use Rattle.protocol_stage.proofs.Arming.{arms-alike, repeats-are-fit}
-
--- ---- Constants
-
--- what the constants of a replica have beside the model's
-abbrev pub constants_of : (config : Config) → Constants (model_config config)
-constants_of config = record { cluster = config.cluster; old = config.old; limits = config.valid }
 
 -- ---- Acts that go out
 
@@ -209,7 +203,7 @@ module _ (may_take : List Slot → Option ℕ → Type 0) (slots : List Slot) (c
 pub opens-follow : OpensFollow
 opens-follow may_take slots config stored made out o number =
     began-alike may_take slots config stored made out o number (model_turn.opening (model_config config) (model_slots slots) number stored) (opening config stored) refl refl
-    (openings_alike (model_config config) (constants_of config) (model_slots slots) number stored)
+    (openings_alike (model_config config) config.valid (model_slots slots) number stored)
 
 -- ---- The number on the disk as a life begins
 
@@ -229,4 +223,4 @@ module _ (config : Config) (slots : List model.Slot) (number : ℕ) (stored : Op
   pub stops-at-start : LoadsAtOpening config stored image → LoadsAtStart (model_config config) slots number stored image
   stops-at-start h =
       ⊎_elim (λ l. inl l)
-      (λ l. saved-first (model_turn.opening (model_config config) slots number stored) (opening config stored) refl refl (openings_alike (model_config config) (constants_of config) slots number stored) l.0 l.1 l.2) h.one
+      (λ l. saved-first (model_turn.opening (model_config config) slots number stored) (opening config stored) refl refl (openings_alike (model_config config) config.valid slots number stored) l.0 l.1 l.2) h.one

@@ -63,12 +63,6 @@ opening_stores config stored t e =
     let from = mapped_from (opened config) (begun config.mode config.me config.n stored) t e in
     subst (λ (u : Turned). (stored_after stored u.acts ≡ Some u.life.stable) × IsSteady u.life) from.2 (opened_stores config stored from.0 (begun_above config stored from.0 from.1))
 
--- a life begins with the constants that are given
-pub opening_config : (config : Config) (stored : Option ℕ) (t : Turned) → Opens config stored t → t.life.config ≡ config
-opening_config config stored t e =
-    let from = mapped_from (opened config) (begun config.mode config.me config.n stored) t e in
-    subst (λ (u : Turned). u.life.config ≡ config) from.2 (quiet_opened from.0.phase (new_life config from.0)).config_is
-
 -- an image that loads the number found or the one saved is one that the opening may leave
 pub at_opening : (config : Config) (stored : Option ℕ) (t : Turned) → Opens config stored t → (image : List ℕ) → LoadsOneOf stored (Some t.life.stable) image → LoadsAtOpening config stored image
 at_opening config stored t e image loads = record { one = ⊎_elim (λ l. inl l) (λ l. inr (t, e, l)) loads }

@@ -62,19 +62,17 @@ quiet-then life t f h k =
 abbrev pub Steady : Phase → ℕ → ℕ → Type 0
 Steady phase mark stable = is_recovering phase ≡ true → stable ≤ mark
 
-pub record KeepsFrom (config : Config) (phase : Phase) (mark stable : ℕ) (t : Turned) : Type 0 where
-  pub config_is : t.life.config ≡ config
+pub record KeepsFrom (phase : Phase) (mark stable : ℕ) (t : Turned) : Type 0 where
   pub stored : Steady phase mark stable → stored_after (Some stable) t.acts ≡ Some t.life.stable
   pub steady : Steady phase mark stable → Steady t.life.phase t.life.mark t.life.stable
 
--- from this life, a turn that leaves the constants, and whose acts save the stable number that it leaves
+-- from this life, a turn whose acts save the stable number that it leaves
 abbrev pub Keeps : Life → Turned → Type 0
-Keeps life t = KeepsFrom life.config life.phase life.mark life.stable t
+Keeps life t = KeepsFrom life.phase life.mark life.stable t
 
 pub keeps_quiet : (life : Life) (t : Turned) → Quiet life t → Keeps life t
 keeps_quiet life t q =
     record {
-      config_is = q.config_is;
       stored = λ s. q.nothing (Some life.stable) ∙ ap (λ (n : ℕ). Some n) (sym q.stable_is);
       steady = λ s r. let a = s (ap is_recovering (sym q.phase_is) ∙ r) in let m = q.mark_is in let n = q.stable_is in omega (arith, a, m, n);
     }
@@ -82,7 +80,6 @@ keeps_quiet life t q =
 pub keeps-then : (life : Life) (t : Turned) (f : Life → Turned) → Keeps life t → Keeps t.life (f t.life) → Keeps life (followed_by t f)
 keeps-then life t f h k =
     record {
-      config_is = k.config_is ∙ h.config_is;
       stored = λ s. stored-append (Some life.stable) t.acts (f t.life).acts ∙ ap (λ (n : Option ℕ). stored_after n (f t.life).acts) (h.stored s) ∙ k.stored (h.steady s);
       steady = λ s. k.steady (h.steady s);
     }

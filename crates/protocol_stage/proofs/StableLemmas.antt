@@ -57,7 +57,6 @@ keeps_saved life view w =
     (λ e.
     let below : life.stable < view = ltb-true life.stable view (and_second (is_view_ss life.config.mode) (nat_lt life.stable view) e) in
     record {
-      config_is = refl;
       stored = λ s. ap (λ (n : ℕ). Some n) (omega (arith, below));
       steady = λ s r. absurd (not_both life.phase w r);
     })
@@ -167,11 +166,10 @@ keeps_rejoined life view recovering =
     (λ e.
     let above : life.mark < view = ltb-true life.mark view (and_second (is_view_ss life.config.mode) (nat_lt life.mark view) e) in
     record {
-      config_is = refl;
       stored = λ s. let low = s recovering in ap (λ (n : ℕ). Some n) (omega (arith, above, low));
       steady = λ s r. absurd cc;
     })
-    (λ e. record { config_is = refl; stored = λ s. refl; steady = λ s r. absurd cc })
+    (λ e. record { stored = λ s. refl; steady = λ s r. absurd cc })
 
 keeps_rejoin : (life : Life) → Keeps life (settled_rejoin life)
 keeps_rejoin life =
@@ -202,7 +200,3 @@ turn_stores life item room s = (keeps_turn life item room).stored s
 
 pub turn_steady : (life : Life) (item : Item) (room : ℕ) → IsSteady life → IsSteady (turn life item room).life
 turn_steady life item room s = (keeps_turn life item room).steady s
-
--- a turn leaves the constants
-pub turn_config : (life : Life) (item : Item) (room : ℕ) → (turn life item room).life.config ≡ life.config
-turn_config life item room = (keeps_turn life item room).config_is

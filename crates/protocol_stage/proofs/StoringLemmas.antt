@@ -3,7 +3,7 @@ use Rattle.std.proofs.Common.{◌≡◌, inl, inr, ⊎_elim, ℕ, ◌≤◌, ◌
 use Rattle.std.specs.Prelude.{IfSome, ⊤}
 use Rattle.std.proofs.lemmas.Bool.Decides.{nat_tests}
 use Rattle.stable_store.specs.Disks.{LeavesOnly}
-use Rattle.stable_store.specs.Slots.{IsTied, Loads, Slots, Stands, held}
+use Rattle.stable_store.specs.Slots.{Loads, Slots, Stands, held}
 use Rattle.stable_store.proofs.Moments.{started}
 use Rattle.protocol_core.specs.declared.act.Act.{Act}
 use Rattle.protocol_stage.specs.Performing.{LoadsOneOf, is_above, raised_number, stored_by, stored_after}
@@ -75,10 +75,6 @@ module _ (cell : Slots) (size : ℕ) (seen : Option (List ℕ)) (images : List �
 
   pub stands_loads_as : (number : Option ℕ) → held cell ≡ number → (image : List ℕ) → images image → Loads image number
   stands_loads_as number is image left = subst (λ (n : Option ℕ). Loads image n) is (stands_loads image left)
-
--- and is tied as the cell says
-pub stands_tied : (cell : Slots) (size : ℕ) (seen : Option (List ℕ)) (images : List ℕ → Type 0) → Stands cell size seen images → (image : List ℕ) → images image → IsTied cell.tie image
-stands_tied cell size seen images stands image left = ap (λ (slots : Slots). slots.tie) (stands.read image (stands.settled image left))
 
 -- a disk on which nothing was done leaves what it left
 pub nothing_done : {D : Type 0} (moment : D → ℕ) (left_since : D → ℕ → List ℕ → Type 0) (disk : D) (images P : List ℕ → Type 0) → ((image : List ℕ) → left_since disk (moment disk) image → images image) → ((image : List ℕ) → images image → P image)

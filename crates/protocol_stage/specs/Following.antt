@@ -4,7 +4,7 @@ use Rattle.paxos_world.specs.Stage as model
 use Rattle.paxos_world.specs.Turn as model_turn
 use Rattle.retransmitter.specs.Slots.{least_free}
 use Rattle.retransmitter.specs.declared.slots.Slot.{Slot}
-use Rattle.stable_store.specs.Slots.{IsTied, Loads, TiedFrom}
+use Rattle.stable_store.specs.Slots.{Loads}
 use Rattle.protocol_core.specs.declared.act.Act.{Act}
 use Rattle.protocol_core.specs.declared.config.Config.{Config}
 use Rattle.protocol_core.specs.declared.item.Item.{Item}
@@ -12,7 +12,7 @@ use Rattle.protocol_laws.specs.Acting.{item_of, model_acts}
 use Rattle.protocol_laws.specs.Coming.{Comes, SendsFitly}
 use Rattle.protocol_laws.specs.Keeping.{KeepsLife}
 use Rattle.protocol_stage.specs.Arming.{RepeatsFitly, model_slot}
-use Rattle.protocol_stage.specs.Running.{IsHeld, Running}
+use Rattle.protocol_stage.specs.Running.{Running}
 use Rattle.protocol_stage.specs.Standing.{Lives, Stands}
 
 -- the acts of the model that go out: all but what is saved
@@ -76,9 +76,3 @@ FollowsOpening may_take slots config stored made out = (number : ℕ) → Began 
 abbrev pub LoadsAtStart : model.Config → List model.Slot → ℕ → Option ℕ → List ℕ → Type 0
 LoadsAtStart c slots number stored image =
     Loads image stored ⊎ ((opened : model_turn.Opened) × (model_turn.opening c slots number stored ≡ Some opened) × Loads image (Some opened.turned.stage.stable))
-
--- an image that a start may leave: its slots are those of one that might have been left before, with its tie or with that of a
--- device that is being tied; or it is tied to the cluster, and loads as at a start of the model from the number that the disk held
-abbrev pub LeavesAtStart : model.Config → List model.Slot → ℕ → Option (List ℕ) → (List ℕ → Type 0) → List ℕ → Type 0
-LeavesAtStart c slots cluster seen images image =
-    TiedFrom cluster seen images image ⊎ (IsTied (Some cluster) image × ((stored : Option ℕ) × IsHeld seen stored × ((number : ℕ) → LoadsAtStart c slots number stored image)))

@@ -3,7 +3,7 @@ use Rattle.std.specs.Prelude.{◌≡◌, ◌⊎◌, ◌≤◌, ℕ, Bool, true, 
 use Rattle.retransmitter.specs.declared.slots.Slot.{Slot}
 use Rattle.paxos_world.specs.Counting.{is_recovering}
 use Rattle.stable_store.specs.declared.cell.CellFault.{CellFault}
-use Rattle.stable_store.specs.Slots.{IsTied, Loads, Slots, TiedFrom, held}
+use Rattle.stable_store.specs.Slots.{Loads, Slots, held}
 use Rattle.protocol_core.specs.declared.act.Act.{Act}
 use Rattle.protocol_stage.specs.declared.protocol.StartFault.{StartFault}
 use Rattle.protocol_core.specs.declared.starting.StartFault.{StartFault as LifeFault}
@@ -25,11 +25,10 @@ pub record Running : Type 0 where
 abbrev pub IsSteady : Life → Type 0
 IsSteady life = is_recovering life.phase ≡ true → life.stable ≤ life.mark
 
--- the cell holds the life's stable number, on a device that is tied to its cluster
+-- the cell holds the life's stable number
 pub record HoldsStable (life : Life) (cell : Slots) : Type 0 where
   pub holds : held cell ≡ Some life.stable
   pub steady : IsSteady life
-  pub tied : cell.tie ≡ Some life.config.cluster
 
 -- the number that a disk holds, where its bytes are known
 abbrev pub IsHeld : Option (List ℕ) → Option ℕ → Type 0
@@ -59,17 +58,10 @@ pub record IsOpened (may_take : List Slot → Option ℕ → Type 0) (slots : Li
 pub record LoadsAtOpening (config : Config) (stored : Option ℕ) (image : List ℕ) : Type 0 where
   pub one : Loads image stored ⊎ ((opened : Turned) × Opens config stored opened × Loads image (Some opened.life.stable))
 
--- an image that a start may leave: its slots are those of one that might have been left before, with its tie or with that of a
--- device that is being tied; or it is tied to the cluster, and loads as at the opening of a life from the number that the disk held
-abbrev pub LeftAtStart : Config → Option (List ℕ) → (List ℕ → Type 0) → List ℕ → Type 0
-LeftAtStart config seen images image =
-    TiedFrom config.cluster seen images image ⊎ (IsTied (Some config.cluster) image × ((stored : Option ℕ) × IsHeld seen stored × LoadsAtOpening config stored image))
-
 -- why a stage does not start where the number is not loaded
 abbrev pub fault_of_cell : CellFault → StartFault
 fault_of_cell CellFault.Disk = StartFault.StoreFault
 fault_of_cell (CellFault.Damaged length) = StartFault.Damaged length
-fault_of_cell (CellFault.OtherCluster kept) = StartFault.OtherCluster kept
 
 -- why a stage does not start where no life begins
 abbrev pub fault_of_life : LifeFault → StartFault

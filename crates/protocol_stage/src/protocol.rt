@@ -6,17 +6,17 @@ ghost use Rattle.jp_types.specs.Faults.{Rose};
 ghost use Rattle.proposer_core.specs.Proposing.{next_of};
 ghost use Rattle.retransmitter.specs.Slots.{claim_of, lent_of, next_live};
 ghost use Rattle.stable_store.specs.Disks.{LeavesOnly};
-ghost use Rattle.stable_store.specs.Slots.{IsTied, Loads, MayTie, Stands, TiedFrom, held};
+ghost use Rattle.stable_store.specs.Slots.{Loads, Stands, held};
 ghost use Rattle.protocol_stage.specs.declared.protocol.StartFault.TheVariants as fault;
 ghost use Rattle.protocol_stage.specs.declared.protocol.TurnFault.TheVariants as turn_fault;
 ghost use Rattle.jp_types.specs.declared.mode.Mode.TheVariants as mode;
 ghost use Rattle.paxos_world.specs.Stage.{Stage, Item as ModelItem};
 ghost use Rattle.protocol_laws.specs.Acting.{item_of};
 ghost use Rattle.protocol_laws.specs.Coming.{Comes};
-ghost use Rattle.protocol_stage.specs.Following.{FollowsOpening, FollowsTurn, LeavesAtStart, LoadsAtTurn, model_config, model_slots};
+ghost use Rattle.protocol_stage.specs.Following.{FollowsOpening, FollowsTurn, LoadsAtStart, LoadsAtTurn, model_config, model_slots};
 ghost use Rattle.protocol_stage.specs.Lending.{KeepsRunning};
 ghost use Rattle.protocol_stage.specs.Performing.{LoadsOneOf, Repeats, outward, stored_after};
-ghost use Rattle.protocol_stage.specs.Running.{HasBegun, HoldsStable, IsHeld, IsOpened, IsSteady, LeftAtStart, Opens};
+ghost use Rattle.protocol_stage.specs.Running.{HasBegun, HoldsStable, IsHeld, IsOpened, IsSteady, LoadsAtOpening, Opens};
 ghost use Rattle.protocol_stage.specs.Standing.{Lives};
 ghost use Rattle.protocol_core.specs.Starting.{IsSpent, opening};
 ghost use Rattle.protocol_core.specs.Turned.{Turned};
@@ -45,10 +45,8 @@ use std::marker::Model;
 pub enum StartFault {
     /// A call of the disk failed.
     StoreFault,
-    /// The disk has this many bytes, and not 27.
+    /// The disk has this many bytes, and not 18.
     Damaged(u64),
-    /// The disk is tied to the cluster of this number.
-    OtherCluster(u64),
     /// The disk holds this number, and the next one to save would pass the limit: the replica can't start again.
     Spent(u64),
     NoMemory,
@@ -81,7 +79,6 @@ impl From<CellFault> for StartFault {
         match error {
             CellFault::Disk => StartFault::StoreFault,
             CellFault::Damaged(length) => StartFault::Damaged(length),
-            CellFault::OtherCluster(kept) => StartFault::OtherCluster(kept),
         }
     }
 }
@@ -130,22 +127,18 @@ fn begin_life<D: Disk>(alloc: Global, config: &Config, disk: &mut D) -> Result<B
     ensures stores { IfOk result (λ begun. stored_after begun.stored begun.acts ≡ Some begun.life.stable) }
     ensures steady { IfOk result (λ begun. IsSteady begun.life) }
     ensures held { IfOk result (λ begun. held begun.cell ≡ begun.stored) }
-    ensures tied { IfOk result (λ begun. begun.cell.tie ≡ Some config.now.cluster) }
-    ensures config { IfOk result (λ begun. begun.life.config ≡ config.now) }
     ensures is_held { IfOk result (λ begun. IsHeld (D.seen disk.old) begun.stored) }
     ensures stands { IfOk result (λ begun. Stands begun.cell (D.size disk.new) (D.seen disk.new) (D.may_leave disk.new)) }
-    ensures spent { (number : ℕ) → result ≡ Err (fault.Spent number) → (D.size disk.old ≡ 27) × MayTie config.now.cluster (D.seen disk.old) × ((stored : Option ℕ) × IsHeld (D.seen disk.old) stored × IsSpent config.now stored number) }
-    ensures no_memory { result ≡ Err fault.NoMemory → (D.size disk.old ≡ 27) × MayTie config.now.cluster (D.seen disk.old) × ((stored : Option ℕ) × (opened : Turned) × IsHeld (D.seen disk.old) stored × Opens config.now stored opened) }
-    ensures whole { OnOk result (D.size disk.old ≡ 27) }
-    ensures own { OnOk result (MayTie config.now.cluster (D.seen disk.old)) }
-    ensures damaged { (count : ℕ) → result ≡ Err (fault.Damaged count) → (count ≡ D.size disk.old) × (D.size disk.old ≢ 27) }
-    ensures other { (kept : ℕ) → result ≡ Err (fault.OtherCluster kept) → (D.size disk.old ≡ 27) × (kept ≢ config.now.cluster) × ((bytes : List ℕ) → D.seen disk.old ≡ Some bytes → IsTied (Some kept) bytes) }
+    ensures spent { (number : ℕ) → result ≡ Err (fault.Spent number) → (D.size disk.old ≡ 18) × ((stored : Option ℕ) × IsHeld (D.seen disk.old) stored × IsSpent config.now stored number) }
+    ensures no_memory { result ≡ Err fault.NoMemory → (D.size disk.old ≡ 18) × ((stored : Option ℕ) × (opened : Turned) × IsHeld (D.seen disk.old) stored × Opens config.now stored opened) }
+    ensures whole { OnOk result (D.size disk.old ≡ 18) }
+    ensures damaged { (count : ℕ) → result ≡ Err (fault.Damaged count) → (count ≡ D.size disk.old) × (D.size disk.old ≢ 18) }
     ensures fault { result ≡ Err fault.StoreFault → Rose (D.faults disk.old) (D.faults disk.new) }
     ensures later { D.faults disk.old ≤ D.faults disk.new }
-    ensures any_moment { LeavesOnly D.moment D.left_since disk.old disk.new (TiedFrom config.now.cluster (D.seen disk.old) (D.may_leave disk.old)) }
+    ensures any_moment { LeavesOnly D.moment D.left_since disk.old disk.new (D.may_leave disk.old) }
     ensures size { D.size disk.new ≡ D.size disk.old }
 {
-    let (cell, stored) = Cell::load(disk, config.cluster)?;
+    let (cell, stored) = Cell::load(disk)?;
     let (life, acts) = starting::start(alloc, *config, stored)?;
     Ok(Begun {
         cell,
@@ -180,8 +173,6 @@ impl<A: Arms + Drop> Parts<A> {
         ensures stands { OnOk result (Stands self.new.cell (D.size disk.new) (D.seen disk.new) (D.may_leave disk.new)) }
         ensures loads { OnOk result ((image : List ℕ) → D.may_leave disk.new image → Loads image (stored_after stored acts)) }
         ensures any_moment { LeavesOnly D.moment D.left_since disk.old disk.new (LoadsOneOf stored (stored_after stored acts)) }
-        ensures tie { self.new.cell.tie ≡ self.old.cell.tie }
-        ensures tie_at_any_moment { LeavesOnly D.moment D.left_since disk.old disk.new (IsTied self.old.cell.tie) }
         ensures untouched { stored ≡ stored_after stored acts → disk.new ≡ disk.old }
         ensures not_down { result ≢ Err TurnFault.Down }
         ensures fault { result ≡ Err TurnFault.StoreFault → Rose (D.faults disk.old) (D.faults disk.new) }
@@ -208,9 +199,6 @@ impl<A: Arms + Drop> Parts<A> {
         ensures stands { OnOk result (Stands self.new.cell (D.size disk.new) (D.seen disk.new) (D.may_leave disk.new)) }
         ensures loads { OnOk result ((image : List ℕ) → D.may_leave disk.new image → Loads image (Some self.new.life.stable)) }
         ensures any_moment { LeavesOnly D.moment D.left_since disk.old disk.new (LoadsOneOf (Some self.old.life.stable) (Some (turn self.old.life item room).life.stable)) }
-        ensures tie_at_any_moment { LeavesOnly D.moment D.left_since disk.old disk.new (IsTied (Some self.old.life.config.cluster)) }
-        ensures config { OnOk result (self.new.life.config ≡ self.old.life.config) }
-        ensures tied { OnOk result ((image : List ℕ) → D.may_leave disk.new image → IsTied (Some self.new.life.config.cluster) image) }
         ensures untouched { (turn self.old.life item room).life.stable ≡ self.old.life.stable → disk.new ≡ disk.old }
         ensures not_down { result ≢ Err TurnFault.Down }
         ensures fault { result ≡ Err TurnFault.StoreFault → Rose (D.faults disk.old) (D.faults disk.new) }
@@ -265,15 +253,11 @@ impl<A: Arms + Drop> Protocol<A> {
         requires stands { Stands begun.cell (D.size disk.old) (D.seen disk.old) (D.may_leave disk.old) }
         requires stores { stored_after begun.stored begun.acts ≡ Some begun.life.stable }
         requires steady { IsSteady begun.life }
-        requires tied { begun.cell.tie ≡ Some begun.life.config.cluster }
         ensures begun { IfOk result (λ made. HasBegun A.may_take repeating begun.life begun.acts made.0 made.1) }
         ensures stands { IfOk result (λ made. Stands made.0.cell (D.size disk.new) (D.seen disk.new) (D.may_leave disk.new)) }
         ensures loads { IfOk result (λ made. (image : List ℕ) → D.may_leave disk.new image → Loads image (Some made.0.life.stable)) }
         ensures any_moment { LeavesOnly D.moment D.left_since disk.old disk.new (LoadsOneOf begun.stored (Some begun.life.stable)) }
-        ensures tie_at_any_moment { LeavesOnly D.moment D.left_since disk.old disk.new (IsTied begun.cell.tie) }
-        ensures tied { IfOk result (λ made. (image : List ℕ) → D.may_leave disk.new image → IsTied (Some made.0.life.config.cluster) image) }
         ensures not_damaged { (count : ℕ) → result ≢ Err (fault.Damaged count) }
-        ensures not_other { (kept : ℕ) → result ≢ Err (fault.OtherCluster kept) }
         ensures not_spent { (number : ℕ) → result ≢ Err (fault.Spent number) }
         ensures fault { result ≡ Err fault.StoreFault → Rose (D.faults disk.old) (D.faults disk.new) }
         ensures later { D.faults disk.old ≤ D.faults disk.new }
@@ -306,23 +290,16 @@ impl<A: Arms + Drop> Protocol<A> {
         // It stands for the stage with which the model's life begins, and what goes out is what goes out there.
         ensures follows { IfOk result (λ made. (stored : Option ℕ) × IsHeld (D.seen disk.old) stored × IsOpened A.may_take (A.slots arms) config.now stored made.0 made.1 × FollowsOpening A.may_take (A.slots arms) config.now stored made.0 made.1) }
 
-        // The disk is tied to the cluster of the life, which is the one that is given.
-        ensures tied { IfOk result (λ made. (image : List ℕ) → D.may_leave disk.new image → IsTied (Some made.0.life.config.cluster) image) }
-        ensures config { IfOk result (λ made. made.0.life.config ≡ config.now) }
-
-        // At each moment of the call an image that a crash may leave is one that it might have left as the call began, but for
-        // the tie of a device that was tied to none. Or it is tied to the cluster, and loads the number that the disk held, or
-        // the one that the life saves first, which is the model's.
-        ensures any_moment { LeavesOnly D.moment D.left_since disk.old disk.new (LeftAtStart config.now (D.seen disk.old) (D.may_leave disk.old)) }
-        ensures stops { LeavesOnly D.moment D.left_since disk.old disk.new (LeavesAtStart (model_config config.now) (model_slots (A.slots arms)) config.now.cluster (D.seen disk.old) (D.may_leave disk.old)) }
+        // At each moment of the call an image that a crash may leave is one that it might have left as the call began, or it
+        // loads the number that the disk held, or the one that the life saves first, which is the model's.
+        ensures any_moment { LeavesOnly D.moment D.left_since disk.old disk.new (λ image. D.may_leave disk.old image ⊎ ((stored : Option ℕ) × IsHeld (D.seen disk.old) stored × LoadsAtOpening config.now stored image)) }
+        ensures stops { LeavesOnly D.moment D.left_since disk.old disk.new (λ image. D.may_leave disk.old image ⊎ ((stored : Option ℕ) × IsHeld (D.seen disk.old) stored × ((number : ℕ) → LoadsAtStart (model_config config.now) (model_slots (A.slots arms)) number stored image))) }
 
         // Which answer comes, where no call of the disk failed.
-        ensures whole { OnOk result (D.size disk.old ≡ 27) }
-        ensures own { OnOk result (MayTie config.now.cluster (D.seen disk.old)) }
-        ensures damaged { (count : ℕ) → result ≡ Err (fault.Damaged count) → (count ≡ D.size disk.old) × (D.size disk.old ≢ 27) }
-        ensures other { (kept : ℕ) → result ≡ Err (fault.OtherCluster kept) → (D.size disk.old ≡ 27) × (kept ≢ config.now.cluster) × ((bytes : List ℕ) → D.seen disk.old ≡ Some bytes → IsTied (Some kept) bytes) }
-        ensures spent { (number : ℕ) → result ≡ Err (fault.Spent number) → (D.size disk.old ≡ 27) × MayTie config.now.cluster (D.seen disk.old) × ((stored : Option ℕ) × IsHeld (D.seen disk.old) stored × IsSpent config.now stored number) }
-        ensures no_memory { result ≡ Err fault.NoMemory → (D.size disk.old ≡ 27) × MayTie config.now.cluster (D.seen disk.old) × ((stored : Option ℕ) × (opened : Turned) × IsHeld (D.seen disk.old) stored × Opens config.now stored opened) }
+        ensures whole { OnOk result (D.size disk.old ≡ 18) }
+        ensures damaged { (count : ℕ) → result ≡ Err (fault.Damaged count) → (count ≡ D.size disk.old) × (D.size disk.old ≢ 18) }
+        ensures spent { (number : ℕ) → result ≡ Err (fault.Spent number) → (D.size disk.old ≡ 18) × ((stored : Option ℕ) × IsHeld (D.seen disk.old) stored × IsSpent config.now stored number) }
+        ensures no_memory { result ≡ Err fault.NoMemory → (D.size disk.old ≡ 18) × ((stored : Option ℕ) × (opened : Turned) × IsHeld (D.seen disk.old) stored × Opens config.now stored opened) }
         ensures fault { result ≡ Err fault.StoreFault → Rose (D.faults disk.old) (D.faults disk.new) }
         ensures later { D.faults disk.old ≤ D.faults disk.new }
         ensures size { D.size disk.new ≡ D.size disk.old }
@@ -346,9 +323,6 @@ impl<A: Arms + Drop> Protocol<A> {
         ensures stands { OnOk result (Stands self.new.cell (D.size disk.new) (D.seen disk.new) (D.may_leave disk.new)) }
         ensures loads { OnOk result ((image : List ℕ) → D.may_leave disk.new image → Loads image (Some self.new.life.stable)) }
         ensures any_moment { self.old.down ≡ false → LeavesOnly D.moment D.left_since disk.old disk.new (LoadsOneOf (Some self.old.life.stable) (Some (turn self.old.life item room).life.stable)) }
-        ensures tie_at_any_moment { self.old.down ≡ false → LeavesOnly D.moment D.left_since disk.old disk.new (IsTied (Some self.old.life.config.cluster)) }
-        ensures config { OnOk result (self.new.life.config ≡ self.old.life.config) }
-        ensures tied { OnOk result ((image : List ℕ) → D.may_leave disk.new image → IsTied (Some self.new.life.config.cluster) image) }
         ensures untouched { (turn self.old.life item room).life.stable ≡ self.old.life.stable → disk.new ≡ disk.old }
         ensures down { result ≡ Err TurnFault.Down ↔ (self.old.down ≡ true) }
         ensures unchanged { self.old.down ≡ true → (self.new ≡ self.old) × (disk.new ≡ disk.old) }
@@ -383,12 +357,8 @@ impl<A: Arms + Drop> Protocol<A> {
         ensures stands { OnOk result (Stands self.new.cell (D.size disk.new) (D.seen disk.new) (D.may_leave disk.new)) }
         ensures loads { OnOk result ((image : List ℕ) → D.may_leave disk.new image → Loads image (Some self.new.life.stable)) }
 
-        // At each moment of the call each image that a crash may leave loads the stable number before the turn, or the one after,
-        // and is tied to the life's cluster, which stays.
+        // At each moment of the call each image that a crash may leave loads the stable number before the turn, or the one after.
         ensures any_moment { self.old.down ≡ false → LeavesOnly D.moment D.left_since disk.old disk.new (LoadsOneOf (Some self.old.life.stable) (Some (turn self.old.life item room).life.stable)) }
-        ensures tie_at_any_moment { self.old.down ≡ false → LeavesOnly D.moment D.left_since disk.old disk.new (IsTied (Some self.old.life.config.cluster)) }
-        ensures config { OnOk result (self.new.life.config ≡ self.old.life.config) }
-        ensures tied { OnOk result ((image : List ℕ) → D.may_leave disk.new image → IsTied (Some self.new.life.config.cluster) image) }
 
         // A turn that leaves the stable number as it was does not touch the disk. In EpochSS each turn is such a one.
         ensures untouched { (turn self.old.life item room).life.stable ≡ self.old.life.stable → disk.new ≡ disk.old }
@@ -478,9 +448,6 @@ mod tests {
     /// A gate byte that is open.
     const OPEN: u8 = 0xA5;
 
-    /// The cluster of the stages, to which their disks are tied.
-    const CLUSTER: u8 = 1;
-
     /// A stage with its disk.
     #[derive(Drop)]
     struct Node<D: Disk + Drop> {
@@ -505,8 +472,6 @@ mod tests {
             me: me.min(2),
             mode,
             window: 4,
-            cluster: CLUSTER as u64,
-            old: false,
         }
     }
 
@@ -536,10 +501,8 @@ mod tests {
     }
 
     /// The bytes of a disk that holds this number, or none.
-    fn bytes_of(number: Option<u64>) -> [u8; 27] {
-        let mut bytes = [0; 27];
-        bytes[25] = CLUSTER;
-        bytes[26] = OPEN;
+    fn bytes_of(number: Option<u64>) -> [u8; 18] {
+        let mut bytes = [0; 18];
         if let Some(number) = number {
             bytes[..8].copy_from_slice(&number.to_be_bytes());
             bytes[8] = OPEN;
@@ -562,7 +525,7 @@ mod tests {
 
     /// The number that a disk of these bytes holds.
     fn loaded(bytes: Vec<u8>) -> Result<Option<u64>, CellFault> {
-        Ok(Cell::load(&mut MemoryDisk::new(bytes), CLUSTER as u64)?.1)
+        Ok(Cell::load(&mut MemoryDisk::new(bytes))?.1)
     }
 
     fn kind(outgoing: &Outgoing) -> &'static str {
@@ -660,12 +623,6 @@ mod tests {
             let mut short = MemoryDisk::new([0; 17].to_vec(alloc)?);
             let fault = start(alloc, mode, 1, &mut short).err();
             assert_eq!(rt; fault, Some(StartFault::Damaged(17)));
-            let mut bytes = bytes_of(Some(6));
-            bytes[25] = CLUSTER + 1;
-            let mut other = MemoryDisk::new(bytes.to_vec(alloc)?);
-            let fault = start(alloc, mode, 1, &mut other).err();
-            assert_eq!(rt; fault, Some(StartFault::OtherCluster(2)));
-            assert_eq!(rt; other.bytes(), bytes.as_slice());
         }
         Ok(())
     }

@@ -3,7 +3,7 @@
 ghost use Rattle.std.specs.Prelude.{◌≡◌, List, ℕ, Err, OnOk, OnErr, Some};
 ghost use Rattle.jp_types.specs.Faults.{HasCause};
 ghost use Rattle.stable_store.specs.Disks.{LeavesOnly};
-ghost use Rattle.stable_store.specs.Slots.{IsTied, Loads, Stands, held};
+ghost use Rattle.stable_store.specs.Slots.{Loads, Stands, held};
 ghost use Rattle.protocol_stage.specs.Performing.{LoadsOneOf, is_above, raised_number, stored_after, stored_by};
 
 use protocol_core::act::Act;
@@ -63,8 +63,6 @@ fn save_above<D: Disk>(
     ensures stands { OnOk result (Stands cell.new (D.size disk.new) (D.seen disk.new) (D.may_leave disk.new)) }
     ensures loads { OnOk result ((image : List ℕ) → D.may_leave disk.new image → Loads image (Some (raised_number stored number))) }
     ensures any_moment { LeavesOnly D.moment D.left_since disk.old disk.new (LoadsOneOf stored (Some (raised_number stored number))) }
-    ensures tie { cell.new.tie ≡ cell.old.tie }
-    ensures tie_at_any_moment { LeavesOnly D.moment D.left_since disk.old disk.new (IsTied cell.old.tie) }
     ensures untouched { stored ≡ Some (raised_number stored number) → disk.new ≡ disk.old }
     ensures fault { OnErr result (result ≡ Err CellFault.Disk) }
     ensures cause { HasCause (D.faults disk.old) (D.faults disk.new) result }
@@ -89,8 +87,6 @@ pub fn save_for<D: Disk>(
     ensures stands { OnOk result (Stands cell.new (D.size disk.new) (D.seen disk.new) (D.may_leave disk.new)) }
     ensures loads { OnOk result ((image : List ℕ) → D.may_leave disk.new image → Loads image (stored_after stored acts.now)) }
     ensures any_moment { LeavesOnly D.moment D.left_since disk.old disk.new (LoadsOneOf stored (stored_after stored acts.now)) }
-    ensures tie { cell.new.tie ≡ cell.old.tie }
-    ensures tie_at_any_moment { LeavesOnly D.moment D.left_since disk.old disk.new (IsTied cell.old.tie) }
     ensures untouched { stored ≡ stored_after stored acts.now → disk.new ≡ disk.old }
     ensures fault { OnErr result (result ≡ Err CellFault.Disk) }
     ensures cause { HasCause (D.faults disk.old) (D.faults disk.new) result }

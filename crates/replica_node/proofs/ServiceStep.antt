@@ -52,7 +52,7 @@ with_service s x xs = record s { life = record s.life { service = x; states = xs
 abbrev pub cores-served : (s : model.Stage) (x : State) (xs : List State) → Cores s → Cores (with_service s x xs)
 cores-served s x xs c =
     record {
-      constants = c.constants;
+      within = c.within;
       log = c.log;
       promises = c.promises;
       answers = c.answers;

@@ -27,7 +27,6 @@ use Rattle.protocol_stage.specs.Arming.{takes_least}
 use Rattle.protocol_stage.specs.Following.{model_config, model_slots}
 use Rattle.protocol_stage.specs.Following as stage
 use Rattle.protocol_stage.proofs.Arming.{none-is-repeated}
-use Rattle.protocol_stage.proofs.Following.{constants_of}
 use Rattle.protocol_stage.proofs.Goals.{OpensFollow}
 use Rattle.replica_node.specs.Beginning.{Begins}
 use Rattle.replica_node.specs.Following.{leaving, Began}
@@ -79,7 +78,7 @@ module _ (opens : OpensFollow) (config : Config) (stored : Option ℕ) (made : W
   alike =
       subst (λ (o : Option Turned). AreAlike (model_config config) model.free_slots (Some begins.opened) o) h.opened.opening_is
       (subst (λ (o : Option model_turn.Opened). AreAlike (model_config config) model.free_slots o (opening config stored)) opening-is
-      (openings_alike (model_config config) (constants_of config) model.free_slots number stored))
+      (openings_alike (model_config config) config.valid model.free_slots number stored))
 
   -- the acts that go out are those that leave the replica of the model
   acts-are : model_acts out ≡ leaving begins.opened.turned.acts

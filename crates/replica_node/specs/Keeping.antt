@@ -3,17 +3,16 @@ use Rattle.std.specs.Prelude.{ℕ, List, Option, Some, None}
 use Rattle.std.specs.List.{slice_get}
 use Rattle.protocol_stage.specs.Running.{Running}
 use Rattle.protocol_core.specs.declared.item.Item.{Item}
-use Rattle.stable_store.specs.Slots.{IsTied, Loads, Stands}
+use Rattle.stable_store.specs.Slots.{Loads, Stands}
 use Rattle.replica_node.specs.Taking.{turned}
 use Rattle.replica_node.specs.declared.stage.Stage.{Stage}
 use Rattle.replica_node.specs.declared.stage.Stage.TheVariants as stage
 use Rattle.replica_node.specs.declared.stages.Stages.{Stages}
 
--- the disk is as the Protocol stage left it: its cell stands there, and each image that a crash may leave loads its life's stable number, and is tied to its cluster
+-- the disk is as the Protocol stage left it: its cell stands there, and each image that a crash may leave loads its life's stable number
 pub record Keeps (p : Running) (size : ℕ) (seen : Option (List ℕ)) (images : List ℕ → Type 0) : Type 0 where
   pub stands : Stands p.cell size seen images
   pub loads : (image : List ℕ) → images image → Loads image (Some p.life.stable)
-  pub tied : (image : List ℕ) → images image → IsTied (Some p.life.config.cluster) image
 
 -- the stable number after the Protocol stage takes this item, if any
 abbrev pub stable_with : Stages → Option Item → ℕ

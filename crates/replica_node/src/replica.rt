@@ -5,12 +5,11 @@ ghost use Rattle.jp_types.specs.Faults.{Rose};
 ghost use Rattle.proposer_core.specs.Proposing.{next_of};
 ghost use Rattle.protocol_stage.specs.declared.protocol.StartFault.TheVariants as fault;
 ghost use Rattle.protocol_stage.specs.Performing.{LoadsOneOf};
-ghost use Rattle.protocol_stage.specs.Running.{IsHeld, LeftAtStart};
+ghost use Rattle.protocol_stage.specs.Running.{IsHeld, LoadsAtOpening};
 ghost use Rattle.protocol_core.specs.Starting.{IsSpent};
 ghost use Rattle.paxos_world.specs.Replica.{Running};
 ghost use Rattle.jp_types.specs.declared.mode.Mode.TheVariants as mode;
 ghost use Rattle.stable_store.specs.Disks.{LeavesOnly};
-ghost use Rattle.stable_store.specs.Slots.{IsTied, MayTie};
 ghost use Rattle.replica_node.specs.Answers.{answer_of, answer_to};
 ghost use Rattle.replica_node.specs.Beginning.{Begins};
 ghost use Rattle.replica_node.specs.Following.{FollowsPut, FollowsStart, FollowsStep, MayStep, step_of};
@@ -88,13 +87,10 @@ impl Replica {
     ) -> Result<(Replica, Listed<Act>), StartFault>
         ensures ok { IfOk result (λ made. (stored : Option ℕ) × IsHeld (D.seen disk.old) stored × Begins config.now stored made.0 made.1) }
         ensures kept { IfOk result (λ made. Keeps made.0.stages.protocol (D.size disk.new) (D.seen disk.new) (D.may_leave disk.new)) }
-        ensures config { IfOk result (λ made. made.0.stages.protocol.life.config ≡ config.now) }
-        ensures any_moment { LeavesOnly D.moment D.left_since disk.old disk.new (LeftAtStart config.now (D.seen disk.old) (D.may_leave disk.old)) }
-        ensures whole { OnOk result (D.size disk.old ≡ 27) }
-        ensures own { OnOk result (MayTie config.now.cluster (D.seen disk.old)) }
-        ensures damaged { (count : ℕ) → result ≡ Err (fault.Damaged count) → (count ≡ D.size disk.old) × (D.size disk.old ≢ 27) }
-        ensures other { (kept : ℕ) → result ≡ Err (fault.OtherCluster kept) → (D.size disk.old ≡ 27) × (kept ≢ config.now.cluster) × ((bytes : List ℕ) → D.seen disk.old ≡ Some bytes → IsTied (Some kept) bytes) }
-        ensures spent { (number : ℕ) → result ≡ Err (fault.Spent number) → (D.size disk.old ≡ 27) × MayTie config.now.cluster (D.seen disk.old) × ((stored : Option ℕ) × IsHeld (D.seen disk.old) stored × IsSpent config.now stored number) }
+        ensures any_moment { LeavesOnly D.moment D.left_since disk.old disk.new (λ image. D.may_leave disk.old image ⊎ ((stored : Option ℕ) × IsHeld (D.seen disk.old) stored × LoadsAtOpening config.now stored image)) }
+        ensures whole { OnOk result (D.size disk.old ≡ 18) }
+        ensures damaged { (count : ℕ) → result ≡ Err (fault.Damaged count) → (count ≡ D.size disk.old) × (D.size disk.old ≢ 18) }
+        ensures spent { (number : ℕ) → result ≡ Err (fault.Spent number) → (D.size disk.old ≡ 18) × ((stored : Option ℕ) × IsHeld (D.seen disk.old) stored × IsSpent config.now stored number) }
         ensures fault { result ≡ Err fault.StoreFault → Rose (D.faults disk.old) (D.faults disk.new) }
         ensures later { D.faults disk.old ≤ D.faults disk.new }
         ensures size { D.size disk.new ≡ D.size disk.old }
@@ -119,22 +115,18 @@ impl Replica {
     ) -> Result<(Replica, Listed<Act>), StartFault>
         ensures ok { IfOk result (λ made. (stored : Option ℕ) × IsHeld (D.seen disk.old) stored × Begins config.now stored made.0 made.1) }
         ensures kept { IfOk result (λ made. Keeps made.0.stages.protocol (D.size disk.new) (D.seen disk.new) (D.may_leave disk.new)) }
-        ensures config { IfOk result (λ made. made.0.stages.protocol.life.config ≡ config.now) }
 
         // It is the replica with which the model's life begins, and the acts are those of the model that leave it.
         ensures follows { IfOk result (λ made. (stored : Option ℕ) × IsHeld (D.seen disk.old) stored × Begins config.now stored made.0 made.1 × FollowsStart config.now stored made.0 made.1) }
 
-        // At each moment of the call an image that a crash may leave is one that it might have left as the call began, but for
-        // the tie of a device that was tied to none. Or it is tied to the cluster, and loads the number that the disk held, or
-        // the one that the life saves first.
-        ensures any_moment { LeavesOnly D.moment D.left_since disk.old disk.new (LeftAtStart config.now (D.seen disk.old) (D.may_leave disk.old)) }
+        // At each moment of the call an image that a crash may leave is one that it might have left as the call began, or it
+        // loads the number that the disk held, or the one that the life saves first.
+        ensures any_moment { LeavesOnly D.moment D.left_since disk.old disk.new (λ image. D.may_leave disk.old image ⊎ ((stored : Option ℕ) × IsHeld (D.seen disk.old) stored × LoadsAtOpening config.now stored image)) }
 
         // Which answer comes, where no call of the disk failed.
-        ensures whole { OnOk result (D.size disk.old ≡ 27) }
-        ensures own { OnOk result (MayTie config.now.cluster (D.seen disk.old)) }
-        ensures damaged { (count : ℕ) → result ≡ Err (fault.Damaged count) → (count ≡ D.size disk.old) × (D.size disk.old ≢ 27) }
-        ensures other { (kept : ℕ) → result ≡ Err (fault.OtherCluster kept) → (D.size disk.old ≡ 27) × (kept ≢ config.now.cluster) × ((bytes : List ℕ) → D.seen disk.old ≡ Some bytes → IsTied (Some kept) bytes) }
-        ensures spent { (number : ℕ) → result ≡ Err (fault.Spent number) → (D.size disk.old ≡ 27) × MayTie config.now.cluster (D.seen disk.old) × ((stored : Option ℕ) × IsHeld (D.seen disk.old) stored × IsSpent config.now stored number) }
+        ensures whole { OnOk result (D.size disk.old ≡ 18) }
+        ensures damaged { (count : ℕ) → result ≡ Err (fault.Damaged count) → (count ≡ D.size disk.old) × (D.size disk.old ≢ 18) }
+        ensures spent { (number : ℕ) → result ≡ Err (fault.Spent number) → (D.size disk.old ≡ 18) × ((stored : Option ℕ) × IsHeld (D.seen disk.old) stored × IsSpent config.now stored number) }
         ensures fault { result ≡ Err fault.StoreFault → Rose (D.faults disk.old) (D.faults disk.new) }
         ensures later { D.faults disk.old ≤ D.faults disk.new }
         ensures size { D.size disk.new ≡ D.size disk.old }
@@ -174,8 +166,6 @@ impl Replica {
         ensures steps { Steps stage self.old result self.new }
         ensures kept { self.new.down ≡ false → Keeps self.new.stages.protocol (D.size disk.new) (D.seen disk.new) (D.may_leave disk.new) }
         ensures any_moment { self.old.down ≡ false → LeavesOnly D.moment D.left_since disk.old disk.new (LoadsOneOf (Some self.old.stages.protocol.life.stable) (Some (stable_after stage self.old.stages))) }
-        ensures tie_at_any_moment { self.old.down ≡ false → LeavesOnly D.moment D.left_since disk.old disk.new (IsTied (Some self.old.stages.protocol.life.config.cluster)) }
-        ensures config { self.new.down ≡ false → self.new.stages.protocol.life.config ≡ self.old.stages.protocol.life.config }
         ensures epoch { self.old.stages.protocol.life.config.mode ≡ mode.EpochSs → disk.new ≡ disk.old }
         ensures fault { result ≡ Stepped.StoreFault → Rose (D.faults disk.old) (D.faults disk.new) }
         ensures later { D.faults disk.old ≤ D.faults disk.new }
@@ -202,11 +192,8 @@ impl Replica {
         ensures steps { Steps stage self.old result self.new }
         ensures kept { self.new.down ≡ false → Keeps self.new.stages.protocol (D.size disk.new) (D.seen disk.new) (D.may_leave disk.new) }
 
-        // At each moment of the call each image that a crash may leave loads the stable number before the step, or the one after,
-        // and is tied to the cluster of the life, which stays.
+        // At each moment of the call each image that a crash may leave loads the stable number before the step, or the one after.
         ensures any_moment { self.old.down ≡ false → LeavesOnly D.moment D.left_since disk.old disk.new (LoadsOneOf (Some self.old.stages.protocol.life.stable) (Some (stable_after stage self.old.stages))) }
-        ensures tie_at_any_moment { self.old.down ≡ false → LeavesOnly D.moment D.left_since disk.old disk.new (IsTied (Some self.old.stages.protocol.life.config.cluster)) }
-        ensures config { self.new.down ≡ false → self.new.stages.protocol.life.config ≡ self.old.stages.protocol.life.config }
 
         // A replica of the model takes the model's step.
         ensures follows { (a : Running) → Resembles a self.old → MayStep stage a → FollowsStep (step_of stage a) a result self.new }

@@ -5,7 +5,6 @@ ghost use Rattle.jp_types.specs.Faults.{Rose};
 ghost use Rattle.jp_types.specs.declared.mode.Mode.TheVariants as mode;
 ghost use Rattle.protocol_stage.specs.Performing.{LoadsOneOf};
 ghost use Rattle.stable_store.specs.Disks.{LeavesOnly};
-ghost use Rattle.stable_store.specs.Slots.{IsTied};
 ghost use Rattle.replica_node.specs.Beginning.{IsFresh};
 ghost use Rattle.replica_node.specs.Keeping.{Keeps, stable_after};
 ghost use Rattle.replica_node.specs.Lanes.{is_full_at, is_kind_of, after_put};
@@ -123,8 +122,6 @@ impl Stages {
         ensures up { OnOk result (self.new.protocol.down ≡ false) }
         ensures kept { OnOk result (Keeps self.new.protocol (D.size disk.new) (D.seen disk.new) (D.may_leave disk.new)) }
         ensures any_moment { LeavesOnly D.moment D.left_since disk.old disk.new (LoadsOneOf (Some self.old.protocol.life.stable) (Some (stable_after stage self.old))) }
-        ensures tie_at_any_moment { LeavesOnly D.moment D.left_since disk.old disk.new (IsTied (Some self.old.protocol.life.config.cluster)) }
-        ensures config { OnOk result (self.new.protocol.life.config ≡ self.old.protocol.life.config) }
         ensures epoch { self.old.protocol.life.config.mode ≡ mode.EpochSs → disk.new ≡ disk.old }
         ensures not_down { result ≢ Err TurnFault.Down }
         ensures store { result ≡ Err TurnFault.StoreFault → stage ≡ Stage.Protocol }

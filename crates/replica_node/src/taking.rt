@@ -7,7 +7,6 @@ ghost use Rattle.jp_types.specs.declared.mode.Mode.TheVariants as mode;
 ghost use Rattle.protocol_core.specs.declared.act.Act.{Act};
 ghost use Rattle.protocol_stage.specs.Performing.{LoadsOneOf};
 ghost use Rattle.stable_store.specs.Disks.{LeavesOnly};
-ghost use Rattle.stable_store.specs.Slots.{IsTied};
 ghost use Rattle.replica_node.specs.declared.stages.Taken.TheVariants as taken_as;
 ghost use Rattle.replica_node.specs.Lane.{places};
 ghost use Rattle.replica_node.specs.Taking.{handed_by, handed_of, kept_by, kept_of, TakesItem, TakesFront};
@@ -79,8 +78,6 @@ impl Stages {
         ensures taken { IfOk result (λ taken. (acts : List Act) × (taken ≡ taken_as.Done acts) × TakesItem self.old item acts self.new) }
         ensures kept { OnOk result (Keeps self.new.protocol (D.size disk.new) (D.seen disk.new) (D.may_leave disk.new)) }
         ensures any_moment { LeavesOnly D.moment D.left_since disk.old disk.new (LoadsOneOf (Some self.old.protocol.life.stable) (Some (stable_with self.old (Some item)))) }
-        ensures tie_at_any_moment { LeavesOnly D.moment D.left_since disk.old disk.new (IsTied (Some self.old.protocol.life.config.cluster)) }
-        ensures config { OnOk result (self.new.protocol.life.config ≡ self.old.protocol.life.config) }
         ensures epoch { self.old.protocol.life.config.mode ≡ mode.EpochSs → disk.new ≡ disk.old }
         ensures not_down { result ≢ Err TurnFault.Down }
         ensures fault { result ≡ Err TurnFault.StoreFault → Rose (D.faults disk.old) (D.faults disk.new) }
@@ -100,8 +97,6 @@ impl Stages {
         ensures kept { OnOk result (Keeps self.new.protocol (D.size disk.new) (D.seen disk.new) (D.may_leave disk.new)) }
         ensures up { OnOk result (self.new.protocol.down ≡ false) }
         ensures any_moment { LeavesOnly D.moment D.left_since disk.old disk.new (LoadsOneOf (Some self.old.protocol.life.stable) (Some (stable_with self.old (slice_get self.old.dispatcher 0)))) }
-        ensures tie_at_any_moment { LeavesOnly D.moment D.left_since disk.old disk.new (IsTied (Some self.old.protocol.life.config.cluster)) }
-        ensures config { OnOk result (self.new.protocol.life.config ≡ self.old.protocol.life.config) }
         ensures epoch { self.old.protocol.life.config.mode ≡ mode.EpochSs → disk.new ≡ disk.old }
         ensures not_down { result ≢ Err TurnFault.Down }
         ensures fault { result ≡ Err TurnFault.StoreFault → Rose (D.faults disk.old) (D.faults disk.new) }

@@ -1,5 +1,5 @@
 -- That a range filled with one byte is a torn one.
-use Rattle.std.proofs.Common.{◌≡◌, inr, ℕ, zero, suc, List, [], ◌∷◌, ◌++◌, length, take, drop, replicate, refl, sym, ◌∙◌, ap, subst}
+use Rattle.std.proofs.Common.{◌≡◌, inr, ℕ, zero, suc, ◌+◌, List, [], ◌∷◌, ◌++◌, length, take, drop, replicate, refl, sym, ◌∙◌, ap, subst}
 use Rattle.std.proofs.lemmas.List.{drop-drop}
 use Rattle.stable_store.specs.Disks.{Torn}
 use Rattle.stable_store.specs.Failing.{Moment, Reaches, MayLeave, filled, filled_all}

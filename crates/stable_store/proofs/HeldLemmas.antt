@@ -1,8 +1,8 @@
 -- Which number the slots stand for, during a save and after it.
-use Rattle.std.proofs.Common.{◌≡◌, ◌≢◌, ◌⊎◌, inl, inr, ⊎_elim, ℕ, ◌<◌, ◌≤◌, ◌^◌, Bool, true, false, List, length, Option, Some, None, IfSome, option_map, refl, sym, ◌∙◌, ap, subst, arith, if◌then◌else◌}
+use Rattle.std.proofs.Common.{◌≡◌, ◌⊎◌, inl, inr, ⊎_elim, ℕ, ◌<◌, ◌≤◌, ◌^◌, Bool, true, false, List, length, Option, Some, None, IfSome, option_map, refl, sym, ◌∙◌, ap, subst, arith, if◌then◌else◌}
 use Rattle.std.specs.Prelude.{nat_le}
 use Rattle.std.proofs.lemmas.Bool.Decides.{nat_tests}
-use Rattle.stable_store.specs.Slots.{Slots, open_in, slots_in, number_of, with_number, greater_of, lesser_of, held, next_slot, written_in, Loads, IsTied, Between}
+use Rattle.stable_store.specs.Slots.{Slots, open_in, slots_in, number_of, with_number, greater_of, lesser_of, held, next_slot, written_in, Loads, Between}
 use Rattle.stable_store.proofs.SlotLemmas.{mapped}
 use Rattle.stable_store.proofs.SaveLemmas.{saved_own, saved_others}
 
@@ -37,7 +37,7 @@ above_first (Some a) None x above = ap (λ (m : ℕ). Some m) (omega arith)
 above_first (Some a) (Some b) x above = ap (λ (m : ℕ). Some m) (omega arith)
 
 -- a save of a number above the one held
-module _ (slots : Slots) (x : ℕ) (above : IfSome (held slots) (λ k. k < x)) (seen : Option (List ℕ)) (long : (bytes : List ℕ) → seen ≡ Some bytes → length bytes ≡ 27) (read : (bytes : List ℕ) → seen ≡ Some bytes → slots_in bytes ≡ slots) where
+module _ (slots : Slots) (x : ℕ) (above : IfSome (held slots) (λ k. k < x)) (seen : Option (List ℕ)) (long : (bytes : List ℕ) → seen ≡ Some bytes → length bytes ≡ 18) (read : (bytes : List ℕ) → seen ≡ Some bytes → slots_in bytes ≡ slots) where
   at_zero : next_slot slots ≡ 0 → (image : List ℕ) → Between 0 x seen image → (held (slots_in image) ≡ held slots) ⊎ (held (slots_in image) ≡ Some x)
   at_zero zero image b =
       let was = read b.bytes b.began in
@@ -69,20 +69,11 @@ module _ (slots : Slots) (x : ℕ) (above : IfSome (held slots) (λ k. k < x)) (
   -- while it is saved
   pub between_loads : (slot : ℕ) → slot ≡ next_slot slots → (image : List ℕ) → Between slot x seen image → Loads image (held slots) ⊎ Loads image (Some x)
   between_loads slot is image b =
-      let size : length image ≡ 27 = b.size ∙ long b.bytes b.began in
+      let size : length image ≡ 18 = b.size ∙ long b.bytes b.began in
       ⊎_elim (λ was. inl (size, was)) (λ new. inr (size, new)) (elim (either slots.first slots.second) [
         | inl zero ↦ at_zero zero image (subst (λ (s : ℕ). Between s x seen image) (is ∙ zero) b)
         | inr one ↦ at_one one image (subst (λ (s : ℕ). Between s x seen image) (is ∙ one) b)
       ])
-
-  -- the device stays tied as it was
-  pub between_tied : (slot : ℕ) → slot ≡ next_slot slots → (image : List ℕ) → Between slot x seen image → IsTied slots.tie image
-  between_tied slot is image b =
-      let apart : 2 ≢ slot = elim (either slots.first slots.second) [
-        | inl zero ↦ λ same. absurd (omega (arith, is, zero, same))
-        | inr one ↦ λ same. absurd (omega (arith, is, one, same))
-      ] in
-      b.others 2 apart ∙ ap (λ (s : Slots). s.tie) (read b.bytes b.began)
 
   held_after : held (with_number (next_slot slots) x slots) ≡ Some x
   held_after = elim (either slots.first slots.second) [
@@ -98,9 +89,7 @@ module _ (slots : Slots) (x : ℕ) (above : IfSome (held slots) (λ k. k < x)) (
         let own = saved_own 0 x kept bytes (omega arith) below (long bytes began) is_kept in
         let other : open_in 1 (written_in 0 kept x bytes) ≡ slots.second =
         saved_others 0 x kept bytes (omega arith) below (long bytes began) is_kept 1 (omega arith) ∙ ap (λ (s : Slots). s.second) (read bytes began) in
-        let tie : open_in 2 (written_in 0 kept x bytes) ≡ slots.tie =
-        saved_others 0 x kept bytes (omega arith) below (long bytes began) is_kept 2 (omega arith) ∙ ap (λ (s : Slots). s.tie) (read bytes began) in
-        λ i. record { first = own i; second = other i; tie = tie i }
+        λ i. record { first = own i; second = other i }
 
     at_one_after : (bytes : List ℕ) → seen ≡ Some bytes → (kept : Option ℕ) → kept ≡ slots.second → slots_in (written_in 1 kept x bytes) ≡ with_number 1 x slots
     at_one_after bytes began kept kept_is =
@@ -108,9 +97,7 @@ module _ (slots : Slots) (x : ℕ) (above : IfSome (held slots) (λ k. k < x)) (
         let own = saved_own 1 x kept bytes (omega arith) below (long bytes began) is_kept in
         let other : open_in 0 (written_in 1 kept x bytes) ≡ slots.first =
         saved_others 1 x kept bytes (omega arith) below (long bytes began) is_kept 0 (omega arith) ∙ ap (λ (s : Slots). s.first) (read bytes began) in
-        let tie : open_in 2 (written_in 1 kept x bytes) ≡ slots.tie =
-        saved_others 1 x kept bytes (omega arith) below (long bytes began) is_kept 2 (omega arith) ∙ ap (λ (s : Slots). s.tie) (read bytes began) in
-        λ i. record { first = other i; second = own i; tie = tie i }
+        λ i. record { first = other i; second = own i }
 
     slots_after_at : (slot : ℕ) → (slot ≡ 0) ⊎ (slot ≡ 1) → (kept : Option ℕ) → kept ≡ number_of slot slots → (bytes : List ℕ) → seen ≡ Some bytes → slots_in (written_in slot kept x bytes) ≡ with_number slot x slots
     slots_after_at slot (inl zero) kept kept_is bytes began =

@@ -3,6 +3,5 @@ pub mod Moments
 pub mod SlotLemmas
 pub mod SaveLemmas
 pub mod HeldLemmas
-pub mod TieLemmas
 pub mod FailingLemmas
 pub mod FillLemmas

@@ -32,11 +32,3 @@ module _ {D : Type 0} (moment : D → ℕ) (left_since : D → ℕ → List ℕ 
     each = λ image left. within image (only.each image left);
     before = λ t image le left. ⊎_elim (λ was. inl was) (λ has. inr (within image has)) (only.before t image le left);
   }
-
-  -- a crash leaves what has both
-  pub both : (old new : D) (P Q : List ℕ → Type 0) → LeavesOnly moment left_since old new P → LeavesOnly moment left_since old new Q → LeavesOnly moment left_since old new (λ image. P image × Q image)
-  both old new P Q first second = record {
-    later = first.later;
-    each = λ image left. (first.each image left, second.each image left);
-    before = λ t image le left. ⊎_elim (λ was. inl was) (λ p. ⊎_elim (λ was. inl was) (λ q. inr (p, q)) (second.before t image le left)) (first.before t image le left);
-  }

@@ -19,7 +19,7 @@ unfolding number_in
 number_there slot number bytes fits below = ap (λ (l : List ℕ). from_be_bytes w64 l) (stands_at (9 * slot) (to_be_bytes w64 number) bytes fits) ∙ from_be_bytes-to_be_bytes_8 number below
 
 -- what is known as a save begins
-module _ (slot number : ℕ) (kept : Option ℕ) (bytes : List ℕ) (low : slot ≤ 2) (below : number < 2 ^ 64) (long : length bytes ≡ 27) (is_kept : open_in slot bytes ≡ kept) where
+module _ (slot number : ℕ) (kept : Option ℕ) (bytes : List ℕ) (low : slot ≤ 1) (below : number < 2 ^ 64) (long : length bytes ≡ 18) (is_kept : open_in slot bytes ≡ kept) where
   abbrev gate : ℕ
   gate = 9 * slot + 8
 
@@ -43,9 +43,9 @@ module _ (slot number : ℕ) (kept : Option ℕ) (bytes : List ℕ) (low : slot 
   abbrev closed : List ℕ
   closed = shut_in (is_some kept) gate bytes
 
-  closed_long : length closed ≡ 27
+  closed_long : length closed ≡ 18
   closed_long = by kept where
-    by : (k : Option ℕ) → length (shut_in (is_some k) gate bytes) ≡ 27
+    by : (k : Option ℕ) → length (shut_in (is_some k) gate bytes) ≡ 18
     by None = long
     by (Some k) = (torn_by gate (0 ∷ []) bytes (omega arith)).size ∙ long
 
@@ -88,7 +88,7 @@ module _ (slot number : ℕ) (kept : Option ℕ) (bytes : List ℕ) (low : slot 
   abbrev saved : List ℕ
   saved = overwritten gate (OPEN ∷ []) numbered
 
-  numbered_long : length numbered ≡ 27
+  numbered_long : length numbered ≡ 18
   numbered_long = numbered_torn.size ∙ closed_long
 
   saved_torn : Torn gate 1 numbered saved
@@ -101,7 +101,7 @@ module _ (slot number : ℕ) (kept : Option ℕ) (bytes : List ℕ) (low : slot 
   pub saved_others : (other : ℕ) → other ≢ slot → open_in other saved ≡ open_in other bytes
   saved_others other apart = third_others saved saved_torn other apart
 
-  pub saved_long : length saved ≡ 27
+  pub saved_long : length saved ≡ 18
   saved_long = saved_torn.size ∙ numbered_long
 
   -- the three parts, at any image
@@ -132,61 +132,35 @@ module _ (slot number : ℕ) (kept : Option ℕ) (bytes : List ℕ) (low : slot 
     own = inr (third image torn);
   }
 
-  -- what may stand while the slot is filled, after its gate was closed
-  pub between_after : (mid seen : Option (List ℕ)) → seen ≡ Some bytes → (image : List ℕ) → (b : Between slot number mid image) → b.bytes ≡ closed → Between slot number seen image
-  between_after mid seen is image b same = record {
-    bytes = bytes;
-    began = is;
-    size = b.size ∙ ap length same ∙ closed_long ∙ sym long;
-    others = λ other apart. b.others other apart ∙ ap (open_in other) same ∙ closed_others other apart;
-    own = inr (⊎_elim (λ as_it_was. inl (as_it_was ∙ ap (open_in slot) same ∙ closed_own)) (λ new. new) b.own);
-  }
-
-  pub shut_long : length closed ≡ 27
-  shut_long = closed_long
-
-  pub shut_closed : open_in slot closed ≡ None
-  shut_closed = closed_own
-
--- the same, where what a read gives is known or not: while a closed slot is filled
-module _ (slot number : ℕ) (low : slot ≤ 2) (below : number < 2 ^ 64) (seen : Option (List ℕ)) (long : (bytes : List ℕ) → seen ≡ Some bytes → length bytes ≡ 27)
-    (is_closed : (bytes : List ℕ) → seen ≡ Some bytes → open_in slot bytes ≡ None) (piece : List ℕ) (piece_is : piece ≡ to_be_bytes w64 number) where
-  -- the number's bytes
-  pub at_number : (images : List ℕ → Type 0) → IsSettled seen images → (image : List ℕ) → TornFrom (9 * slot) (length piece) images image → Between slot number seen image
-  at_number images settled image from =
-      let is = settled from.0 from.1 in
-      let torn = subst (λ (l : List ℕ). Torn (9 * slot) (length l) from.0 image) piece_is from.2 in
-      between_second slot number None from.0 low below (long from.0 is) (is_closed from.0 is) seen is image torn
-
-  -- its gate
-  pub at_gate : (mid : Option (List ℕ)) → mid ≡ option_map (overwritten (9 * slot) piece) seen → (images : List ℕ → Type 0) → IsSettled mid images
-      → (image : List ℕ) → TornFrom (9 * slot + 8) 1 images image → Between slot number seen image
-  at_gate mid mid_is images settled image from =
-      let was = mapped (overwritten (9 * slot) piece) seen from.0 (sym mid_is ∙ settled from.0 from.1) in
-      let is : overwritten (9 * slot) (to_be_bytes w64 number) was.0 ≡ from.0 = ap (λ (l : List ℕ). overwritten (9 * slot) l was.0) (sym piece_is) ∙ was.2 in
-      between_third slot number None was.0 low below (long was.0 was.1) (is_closed was.0 was.1) seen was.1 image (subst (λ (l : List ℕ). Torn (9 * slot + 8) 1 l image) (sym is) from.2)
-
--- and while a number is saved in a slot that may be open
-module _ (slot number : ℕ) (kept : Option ℕ) (is_open : Bool) (open_is : is_open ≡ is_some kept) (low : slot ≤ 2) (below : number < 2 ^ 64) (seen : Option (List ℕ))
-    (long : (bytes : List ℕ) → seen ≡ Some bytes → length bytes ≡ 27) (is_kept : (bytes : List ℕ) → seen ≡ Some bytes → open_in slot bytes ≡ kept) where
+-- the same, where what a read gives is known or not
+module _ (slot number : ℕ) (kept : Option ℕ) (is_open : Bool) (open_is : is_open ≡ is_some kept) (low : slot ≤ 1) (below : number < 2 ^ 64) (seen : Option (List ℕ))
+    (long : (bytes : List ℕ) → seen ≡ Some bytes → length bytes ≡ 18) (is_kept : (bytes : List ℕ) → seen ≡ Some bytes → open_in slot bytes ≡ kept) where
   pub at_first : (images : List ℕ → Type 0) → IsSettled seen images → (image : List ℕ) → TornFrom (9 * slot + 8) (if is_open then 1 else 0) images image → Between slot number seen image
   at_first images settled image from =
       let is = settled from.0 from.1 in
       let torn = subst (λ (b : Bool). Torn (9 * slot + 8) (if b then 1 else 0) from.0 image) open_is from.2 in
       between_first slot number kept from.0 low below (long from.0 is) (is_kept from.0 is) seen is image torn
 
-  module _ (mid : Option (List ℕ)) (mid_is : mid ≡ option_map (shut_in is_open (9 * slot + 8)) seen) where
-    -- what the gate's closing left
-    closed_from : (bytes : List ℕ) → mid ≡ Some bytes → (was : List ℕ) × (seen ≡ Some was) × (shut_in (is_some kept) (9 * slot + 8) was ≡ bytes)
-    closed_from bytes is =
-        mapped (shut_in (is_some kept) (9 * slot + 8)) seen bytes (ap (λ (b : Bool). option_map (shut_in b (9 * slot + 8)) seen) (sym open_is) ∙ sym mid_is ∙ is)
+  -- what the gate's closing left
+  closed_from : (mid : Option (List ℕ)) → mid ≡ option_map (shut_in is_open (9 * slot + 8)) seen → (bytes : List ℕ) → mid ≡ Some bytes
+      → (was : List ℕ) × (seen ≡ Some was) × (shut_in (is_some kept) (9 * slot + 8) was ≡ bytes)
+  closed_from mid mid_is bytes is =
+      mapped (shut_in (is_some kept) (9 * slot + 8)) seen bytes (ap (λ (b : Bool). option_map (shut_in b (9 * slot + 8)) seen) (sym open_is) ∙ sym mid_is ∙ is)
 
-    pub closed_then : (bytes : List ℕ) → mid ≡ Some bytes → open_in slot bytes ≡ None
-    closed_then bytes is =
-        let was = closed_from bytes is in
-        ap (open_in slot) (sym was.2) ∙ shut_closed slot number kept was.0 low below (long was.0 was.1) (is_kept was.0 was.1)
+  -- the number's bytes
+  module _ (piece : List ℕ) (piece_is : piece ≡ to_be_bytes w64 number) where
+    pub at_second : (mid : Option (List ℕ)) → mid ≡ option_map (shut_in is_open (9 * slot + 8)) seen → (images : List ℕ → Type 0) → IsSettled mid images
+        → (image : List ℕ) → TornFrom (9 * slot) (length piece) images image → Between slot number seen image
+    at_second mid mid_is images settled image from =
+        let was = closed_from mid mid_is from.0 (settled from.0 from.1) in
+        let torn = subst (λ (l : List ℕ). Torn (9 * slot) (length l) from.0 image) piece_is from.2 in
+        between_second slot number kept was.0 low below (long was.0 was.1) (is_kept was.0 was.1) seen was.1 image (subst (λ (l : List ℕ). Torn (9 * slot) 8 l image) (sym was.2) torn)
 
-    pub at_rest : (image : List ℕ) → Between slot number mid image → Between slot number seen image
-    at_rest image b =
-        let was = closed_from b.bytes b.began in
-        between_after slot number kept was.0 low below (long was.0 was.1) (is_kept was.0 was.1) mid seen was.1 image b (sym was.2)
+    pub at_third : (mid later : Option (List ℕ)) → mid ≡ option_map (shut_in is_open (9 * slot + 8)) seen → later ≡ option_map (overwritten (9 * slot) piece) mid
+        → (images : List ℕ → Type 0) → IsSettled later images → (image : List ℕ) → TornFrom (9 * slot + 8) 1 images image → Between slot number seen image
+    at_third mid later mid_is later_is images settled image from =
+        let last = mapped (overwritten (9 * slot) piece) mid from.0 (sym later_is ∙ settled from.0 from.1) in
+        let was = closed_from mid mid_is last.0 last.1 in
+        let is : overwritten (9 * slot) (to_be_bytes w64 number) (shut_in (is_some kept) (9 * slot + 8) was.0) ≡ from.0 =
+        ap (overwritten (9 * slot) (to_be_bytes w64 number)) was.2 ∙ ap (λ (l : List ℕ). overwritten (9 * slot) l last.0) (sym piece_is) ∙ last.2 in
+        between_third slot number kept was.0 low below (long was.0 was.1) (is_kept was.0 was.1) seen was.1 image (subst (λ (l : List ℕ). Torn (9 * slot + 8) 1 l image) (sym is) from.2)

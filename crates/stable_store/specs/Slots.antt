@@ -1,4 +1,4 @@
--- Two slots of nine bytes, each of a number and a gate, the number for which they stand, and the cluster number behind them.
+-- Two slots of nine bytes, each of a number and a gate, and the number for which they stand.
 use Rattle.std.specs.Prelude.{◌≡◌, ◌≢◌, ◌⊎◌, ◌∷◌, [], Bool, ℕ, ◌+◌, ◌*◌, ◌==◌, nat_le, max, is_some, if◌then◌else◌, List, length, take, drop, slice_index, Option, Some, None}
 use Rattle.std.specs.Int.{w64, from_be_bytes, to_be_bytes}
 use Rattle.stable_store.specs.Disks.{IsSettled, overwritten}
@@ -19,18 +19,13 @@ gate_in slot image = slice_index image (9 * slot + 8)
 abbrev pub open_in : ℕ → List ℕ → Option ℕ
 open_in slot image = if gate_in slot image == OPEN then Some (number_in slot image) else None
 
--- the cluster to which a device is tied: its number stands behind the two slots, as a third slot
-abbrev pub tie_in : List ℕ → Option ℕ
-tie_in image = open_in 2 image
-
--- the numbers of the open slots, and the cluster to which the device is tied
+-- the numbers of the open slots
 pub record Slots : Type 0 where
   pub first : Option ℕ
   pub second : Option ℕ
-  pub tie : Option ℕ
 
 abbrev pub slots_in : List ℕ → Slots
-slots_in image = record { first = open_in 0 image; second = open_in 1 image; tie = tie_in image }
+slots_in image = record { first = open_in 0 image; second = open_in 1 image }
 
 abbrev pub greater_of : Option ℕ → Option ℕ → Option ℕ
 greater_of None other = other
@@ -61,27 +56,20 @@ next_slot slots = lesser_of slots.first slots.second
 abbrev pub saved : ℕ → Slots → Slots
 saved number slots = with_number (next_slot slots) number slots
 
--- an image of 27 bytes whose greatest open slot has this number, or that has no open slot
+-- an image of 18 bytes whose greatest open slot has this number, or that has no open slot
 abbrev pub Loads : List ℕ → Option ℕ → Type 0
-Loads image number = (length image ≡ 27) × (held (slots_in image) ≡ number)
-
--- an image that is tied to this cluster, or to none
-abbrev pub IsTied : Option ℕ → List ℕ → Type 0
-IsTied cluster image = tie_in image ≡ cluster
+Loads image number = (length image ≡ 18) × (held (slots_in image) ≡ number)
 
 -- the bytes where a gate was open and is closed
 abbrev pub shut_in : Bool → ℕ → List ℕ → List ℕ
 shut_in is_open gate bytes = if is_open then overwritten gate (0 ∷ []) bytes else bytes
 
--- the bytes after a closed slot was filled: the number was written, and the gate opened
-abbrev pub filled_in : ℕ → ℕ → List ℕ → List ℕ
-filled_in slot number bytes = overwritten (9 * slot + 8) (OPEN ∷ []) (overwritten (9 * slot) (to_be_bytes w64 number) bytes)
-
--- the bytes after a number was saved in a slot: its gate was closed, and the slot filled
+-- the bytes after a number was saved in a slot: its gate was closed, the number written, and the gate opened
 abbrev pub written_in : ℕ → Option ℕ → ℕ → List ℕ → List ℕ
-written_in slot kept number bytes = filled_in slot number (shut_in (is_some kept) (9 * slot + 8) bytes)
+written_in slot kept number bytes =
+    overwritten (9 * slot + 8) (OPEN ∷ []) (overwritten (9 * slot) (to_be_bytes w64 number) (shut_in (is_some kept) (9 * slot + 8) bytes))
 
--- While a number is saved in a slot, the other slots are as they were, and that slot too, or it is closed, or it has the number.
+-- While a number is saved in a slot, the other slot is as it was, and that slot too, or it is closed, or it has the number.
 pub record Between (slot number : ℕ) (seen : Option (List ℕ)) (image : List ℕ) : Type 0 where
   pub bytes : List ℕ
   pub began : seen ≡ Some bytes
@@ -93,30 +81,8 @@ pub record Between (slot number : ℕ) (seen : Option (List ℕ)) (image : List 
 abbrev pub stored : ℕ → Slots → List ℕ → List ℕ
 stored number slots bytes = written_in (next_slot slots) (number_of (next_slot slots) slots) number bytes
 
--- the bytes after they were tied to a cluster, where they were tied to none
-abbrev pub tied_to : ℕ → List ℕ → List ℕ
-tied_to cluster bytes = if is_some (tie_in bytes) then bytes else filled_in 2 cluster bytes
-
--- what is read, where it is known, is tied to this cluster, or to none
-abbrev pub MayTie : ℕ → Option (List ℕ) → Type 0
-MayTie cluster seen = (bytes : List ℕ) → seen ≡ Some bytes → IsTied (Some cluster) bytes ⊎ IsTied None bytes
-
--- what is read is tied to none
-abbrev pub IsFree : Option (List ℕ) → Type 0
-IsFree seen = (bytes : List ℕ) × (seen ≡ Some bytes) × IsTied None bytes
-
--- While a device is tied to a cluster, an image has the slots of one that might have been left before, and its tie; or, where
--- what was read was tied to none, it is tied to that cluster, or to none.
-pub record TiedFrom (cluster : ℕ) (seen : Option (List ℕ)) (images : List ℕ → Type 0) (image : List ℕ) : Type 0 where
-  pub old : List ℕ
-  pub was : images old
-  pub size : length image ≡ length old
-  pub first : open_in 0 image ≡ open_in 0 old
-  pub second : open_in 1 image ≡ open_in 1 old
-  pub tie : IsTied (tie_in old) image ⊎ (IsFree seen × (IsTied (Some cluster) image ⊎ IsTied None image))
-
--- These slots stand on a device of 27 bytes, where a crash leaves what a read gives.
+-- These slots stand on a device of 18 bytes, where a crash leaves what a read gives.
 pub record Stands (slots : Slots) (size : ℕ) (seen : Option (List ℕ)) (images : List ℕ → Type 0) : Type 0 where
-  pub fits : size ≡ 27
+  pub fits : size ≡ 18
   pub read : (bytes : List ℕ) → seen ≡ Some bytes → slots_in bytes ≡ slots
   pub settled : IsSettled seen images

@@ -4,7 +4,7 @@ ghost use Rattle.std.specs.Prelude.{◌≡◌, ◌≢◌, ◌<◌, ◌≤◌, �
 ghost use Rattle.std.specs.Int.{w64, to_be_bytes};
 ghost use Rattle.jp_types.specs.Faults.{HasCause, Rose};
 ghost use Rattle.stable_store.specs.Disks.{overwritten, TornFrom, IsSettled, LeavesOnly};
-ghost use Rattle.stable_store.specs.Slots.{open_in, tie_in, shut_in, filled_in, written_in, Between, number_of, with_number, greater_of, held, next_slot, saved, stored, tied_to, Loads, IsTied, MayTie, TiedFrom, Stands};
+ghost use Rattle.stable_store.specs.Slots.{open_in, shut_in, written_in, Between, number_of, with_number, greater_of, held, next_slot, saved, stored, Loads, Stands};
 
 use crate::disk::Disk;
 use jp_types::fault::Failed;
@@ -15,10 +15,8 @@ use std::marker::Model;
 pub enum CellFault {
     /// A call of the disk failed.
     Disk,
-    /// The device has this many bytes, and not 27.
+    /// The device has this many bytes, and not 18.
     Damaged(u64),
-    /// The device is tied to the cluster of this number.
-    OtherCluster(u64),
 }
 
 impl From<Failed> for CellFault {
@@ -31,30 +29,24 @@ impl From<Failed> for CellFault {
     }
 }
 
-/// One growing number on a device of 27 bytes: two slots, each of eight bytes, the greatest first, and a gate byte behind
-/// them, which is open where it is 0xA5. The number held is the greatest of an open slot. The number of the cluster stands
-/// behind them in the same form: the device is tied to that cluster where the gate is open, and to none elsewhere.
+/// One growing number on a device of 18 bytes: two slots, each of eight bytes, the greatest first, and a gate byte behind
+/// them, which is open where it is 0xA5. The number held is the greatest of an open slot.
 #[derive(Debug, Drop)]
 pub struct Cell {
     first: Option<u64>,
     second: Option<u64>,
-    cluster: u64,
 }
 
 impl Model for Cell {
-    ghost use Rattle.std.specs.Prelude.{Some};
     ghost use Rattle.stable_store.specs.Slots.{Slots};
 
     ghost Value = { Slots };
 
-    ghost view = { λ cell. record { first = cell.first; second = cell.second; tie = Some cell.cluster } };
+    ghost view = { λ cell. record { first = cell.first; second = cell.second } };
 }
 
 /// How many bytes the device has.
-pub const LENGTH: u64 = 27;
-
-/// The place of the cluster number, as a slot behind the two.
-const TIE: u64 = 2;
+pub const LENGTH: u64 = 18;
 
 /// A gate byte that is open. Any other is closed.
 const OPEN: u8 = 0xA5;
@@ -91,34 +83,16 @@ fn shut<D: Disk>(disk: &mut D, gate: u64, is_open: bool) -> Result<(), Failed>
     }
 }
 
-/// Saves a number in a slot that is closed: writes the number, and opens the gate. Each part is on the device before the
-/// next begins, so a gate is never open over a number that is half written.
-fn fill_slot<D: Disk>(disk: &mut D, slot: u64, number: u64) -> Result<(), Failed>
-    requires slot { slot ≤ 2 }
-    requires size { D.size disk.old ≡ 27 }
-    requires settled { IsSettled (D.seen disk.old) (D.may_leave disk.old) }
-    requires closed { (bytes : List ℕ) → D.seen disk.old ≡ Some bytes → open_in slot bytes ≡ None }
-    ensures seen { OnOk result (D.seen disk.new ≡ option_map (filled_in slot number) (D.seen disk.old)) }
-    ensures settled { OnOk result (IsSettled (D.seen disk.new) (D.may_leave disk.new)) }
-    ensures any_moment { LeavesOnly D.moment D.left_since disk.old disk.new (Between slot number (D.seen disk.old)) }
-    ensures size { D.size disk.new ≡ D.size disk.old }
-    ensures cause { HasCause (D.faults disk.old) (D.faults disk.new) result }
-{
-    let at = 9 * slot;
-    let bytes = number.to_be_bytes();
-    put(disk, at, &bytes)?;
-    put(disk, at + 8, &[OPEN])
-}
-
-/// Saves a number in a slot, whose open number is given where it has one: closes its gate, and fills it.
+/// Saves a number in a slot, whose open number is given where it has one: closes its gate, writes the number and opens
+/// the gate. Each part is on the device before the next begins, so a gate is never open over a number that is half written.
 fn write_slot<D: Disk>(
     disk: &mut D,
     slot: u64,
     kept: Option<u64>,
     number: u64,
 ) -> Result<(), Failed>
-    requires slot { slot ≤ 2 }
-    requires size { D.size disk.old ≡ 27 }
+    requires slot { slot ≤ 1 }
+    requires size { D.size disk.old ≡ 18 }
     requires settled { IsSettled (D.seen disk.old) (D.may_leave disk.old) }
     requires kept { (bytes : List ℕ) → D.seen disk.old ≡ Some bytes → open_in slot bytes ≡ kept }
     ensures seen { OnOk result (D.seen disk.new ≡ option_map (written_in slot kept number) (D.seen disk.old)) }
@@ -127,17 +101,20 @@ fn write_slot<D: Disk>(
     ensures size { D.size disk.new ≡ D.size disk.old }
     ensures cause { HasCause (D.faults disk.old) (D.faults disk.new) result }
 {
-    shut(disk, 9 * slot + 8, kept.is_some())?;
-    fill_slot(disk, slot, number)
+    let at = 9 * slot;
+    let bytes = number.to_be_bytes();
+    shut(disk, at + 8, kept.is_some())?;
+    put(disk, at, &bytes)?;
+    put(disk, at + 8, &[OPEN])
 }
 
 /// The number of a slot, where its gate is open.
 #[tactic(auto, unfolding(crate::specs::Slots::number_in, crate::specs::Slots::gate_in))]
-fn open_number(image: &[u8; 27], slot: u64) -> Option<u64>
-    requires { slot ≤ 2 }
+fn open_number(image: &[u8; 18], slot: usize) -> Option<u64>
+    requires { slot ≤ 1 }
     ensures { result ≡ open_in slot image.now }
 {
-    let at = 9 * slot as usize;
+    let at = 9 * slot;
     if image[at + 8] != OPEN {
         return None;
     }
@@ -158,12 +135,11 @@ fn greater_of(first: Option<u64>, second: Option<u64>) -> Option<u64>
 }
 
 /// Fills the image from the device, after a sync.
-fn read_settled<D: Disk>(disk: &mut D, image: &mut [u8; 27]) -> Result<(), CellFault>
+fn read_settled<D: Disk>(disk: &mut D, image: &mut [u8; 18]) -> Result<(), CellFault>
     ensures read { OnOk result ((bytes : List ℕ) → D.seen disk.old ≡ Some bytes → image.new ≡ bytes) }
     ensures settled { OnOk result (IsSettled (D.seen disk.new) (D.may_leave disk.new)) }
-    ensures whole { OnOk result (D.size disk.old ≡ 27) }
-    ensures damaged { (count : ℕ) → result ≡ Err (CellFault.Damaged count) → (count ≡ D.size disk.old) × (D.size disk.old ≢ 27) }
-    ensures not_other { (kept : ℕ) → result ≢ Err (CellFault.OtherCluster kept) }
+    ensures whole { OnOk result (D.size disk.old ≡ 18) }
+    ensures damaged { (count : ℕ) → result ≡ Err (CellFault.Damaged count) → (count ≡ D.size disk.old) × (D.size disk.old ≢ 18) }
     ensures fault { result ≡ Err CellFault.Disk → Rose (D.faults disk.old) (D.faults disk.new) }
     ensures later { D.faults disk.old ≤ D.faults disk.new }
     ensures any_moment { LeavesOnly D.moment D.left_since disk.old disk.new (D.may_leave disk.old) }
@@ -179,72 +155,33 @@ fn read_settled<D: Disk>(disk: &mut D, image: &mut [u8; 27]) -> Result<(), CellF
     Ok(())
 }
 
-/// Ties a device to a cluster, where it is tied to none. What it is tied to is given.
-fn tie<D: Disk>(disk: &mut D, kept: Option<u64>, cluster: u64) -> Result<(), CellFault>
-    requires size { D.size disk.old ≡ 27 }
-    requires settled { IsSettled (D.seen disk.old) (D.may_leave disk.old) }
-    requires kept { (bytes : List ℕ) → D.seen disk.old ≡ Some bytes → IsTied kept bytes }
-    ensures seen { OnOk result (D.seen disk.new ≡ option_map (tied_to cluster) (D.seen disk.old)) }
-    ensures settled { OnOk result (IsSettled (D.seen disk.new) (D.may_leave disk.new)) }
-    ensures any_moment { LeavesOnly D.moment D.left_since disk.old disk.new (TiedFrom cluster (D.seen disk.old) (D.may_leave disk.old)) }
-    ensures own { OnOk result ((kept ≡ Some cluster) ⊎ (kept ≡ None)) }
-    ensures other { (number : ℕ) → result ≡ Err (CellFault.OtherCluster number) → (kept ≡ Some number) × (number ≢ cluster) × (disk.new ≡ disk.old) }
-    ensures not_damaged { (count : ℕ) → result ≢ Err (CellFault.Damaged count) }
-    ensures fault { result ≡ Err CellFault.Disk → Rose (D.faults disk.old) (D.faults disk.new) }
-    ensures later { D.faults disk.old ≤ D.faults disk.new }
-    ensures size { D.size disk.new ≡ D.size disk.old }
-{
-    match kept {
-        None => Ok(fill_slot(disk, TIE, cluster)?),
-        Some(number) if number == cluster => Ok(()),
-        Some(number) => Err(CellFault::OtherCluster(number)),
-    }
-}
-
 impl Cell {
-    /// Loads the number that a device holds: the greatest number of an open slot, or none where no slot is open. A device
-    /// that is tied to no cluster is tied to this one before.
-    pub fn load<D: Disk>(disk: &mut D, cluster: u64) -> Result<(Cell, Option<u64>), CellFault>
+    /// Loads the number that a device holds: the greatest number of an open slot, or none where no slot is open.
+    pub fn load<D: Disk>(disk: &mut D) -> Result<(Cell, Option<u64>), CellFault>
         ensures held { IfOk result (λ made. made.1 ≡ held made.0) }
-        ensures cluster { IfOk result (λ made. made.0.tie ≡ Some cluster) }
         ensures read { IfOk result (λ made. (bytes : List ℕ) → D.seen disk.old ≡ Some bytes → Loads bytes made.1) }
         ensures loads { IfOk result (λ made. (image : List ℕ) → D.may_leave disk.new image → Loads image made.1) }
-        ensures tied { OnOk result ((image : List ℕ) → D.may_leave disk.new image → IsTied (Some cluster) image) }
         ensures stands { IfOk result (λ made. Stands made.0 (D.size disk.new) (D.seen disk.new) (D.may_leave disk.new)) }
-        ensures bytes { OnOk result (D.seen disk.new ≡ option_map (tied_to cluster) (D.seen disk.old)) }
 
-        // At each moment of the call an image that a crash may leave loads the number that some image loaded as the call began,
-        // and has its tie; or, where what was read was tied to no cluster, it is tied to this one, or to none.
-        ensures any_moment { LeavesOnly D.moment D.left_since disk.old disk.new (TiedFrom cluster (D.seen disk.old) (D.may_leave disk.old)) }
+        // At each moment of the call an image that a crash may leave is one that it might have left as the call began.
+        ensures any_moment { LeavesOnly D.moment D.left_since disk.old disk.new (D.may_leave disk.old) }
 
-        // Where no call of the disk failed, Damaged comes exactly where the length is not 27, and OtherCluster exactly where it is
-        // 27 and the device is tied to another cluster. Nothing is written then.
-        ensures whole { OnOk result (D.size disk.old ≡ 27) }
-        ensures own { OnOk result (MayTie cluster (D.seen disk.old)) }
-        ensures damaged { (count : ℕ) → result ≡ Err (CellFault.Damaged count) → (count ≡ D.size disk.old) × (D.size disk.old ≢ 27) }
-        ensures other { (kept : ℕ) → result ≡ Err (CellFault.OtherCluster kept) → (D.size disk.old ≡ 27) × (kept ≢ cluster) × ((bytes : List ℕ) → D.seen disk.old ≡ Some bytes → IsTied (Some kept) bytes) }
-        ensures unwritten { OnErr result (result ≢ Err CellFault.Disk → (D.seen disk.new ≡ D.seen disk.old) × LeavesOnly D.moment D.left_since disk.old disk.new (D.may_leave disk.old)) }
+        // Where no call of the disk failed, Damaged comes exactly where the length is not 18.
+        ensures whole { OnOk result (D.size disk.old ≡ 18) }
+        ensures damaged { (count : ℕ) → result ≡ Err (CellFault.Damaged count) → (count ≡ D.size disk.old) × (D.size disk.old ≢ 18) }
         ensures fault { result ≡ Err CellFault.Disk → Rose (D.faults disk.old) (D.faults disk.new) }
         ensures later { D.faults disk.old ≤ D.faults disk.new }
+        ensures seen { D.seen disk.new ≡ D.seen disk.old }
         ensures size { D.size disk.new ≡ D.size disk.old }
     {
-        let mut image = [0u8; 27];
+        let mut image = [0u8; 18];
         read_settled(disk, &mut image)?;
-        tie(disk, open_number(&image, TIE), cluster)?;
         let cell = Cell {
             first: open_number(&image, 0),
             second: open_number(&image, 1),
-            cluster,
         };
         let held = greater_of(cell.first, cell.second);
         Ok((cell, held))
-    }
-
-    /// The number of the cluster to which the device is tied.
-    pub fn cluster(&self) -> u64
-        ensures { self.now.tie ≡ Some result }
-    {
-        self.cluster
     }
 
     /// Which slot the next save takes.
@@ -265,8 +202,7 @@ impl Cell {
     }
 
     fn put_number(&mut self, slot: u64, number: u64)
-        ensures value { self.new ≡ with_number slot number self.old }
-        ensures tie { self.new.tie ≡ self.old.tie }
+        ensures { self.new ≡ with_number slot number self.old }
     {
         if slot == 0 {
             self.first = Some(number);
@@ -282,15 +218,11 @@ impl Cell {
         requires stands { Stands self.old (D.size disk.old) (D.seen disk.old) (D.may_leave disk.old) }
         ensures slots { OnOk result (self.new ≡ saved x self.old) }
         ensures held { OnOk result (held self.new ≡ Some x) }
-        ensures tie { self.new.tie ≡ self.old.tie }
         ensures err { OnErr result (self.new ≡ self.old) }
 
         // At each moment of the call each image that a crash may leave loads the number held before, or this one.
         ensures any_moment { LeavesOnly D.moment D.left_since disk.old disk.new (λ image. Loads image (held self.old) ⊎ Loads image (Some x)) }
         ensures loads { OnOk result ((image : List ℕ) → D.may_leave disk.new image → Loads image (Some x)) }
-
-        // And its tie stays.
-        ensures tie_at_any_moment { LeavesOnly D.moment D.left_since disk.old disk.new (IsTied self.old.tie) }
         ensures bytes { OnOk result (D.seen disk.new ≡ option_map (stored x self.old) (D.seen disk.old)) }
         ensures stands { OnOk result (Stands self.new (D.size disk.new) (D.seen disk.new) (D.may_leave disk.new)) }
         ensures fault { OnErr result (result ≡ Err CellFault.Disk) }
@@ -312,19 +244,15 @@ mod tests {
     use std::alloc::Global;
     use std::test::Fail;
 
-    /// The device whose first slot holds 5, whose second is closed, and which is tied to cluster 1.
-    const FIVE: [u8; 27] = [
-        0, 0, 0, 0, 0, 0, 0, 5, OPEN, 0, 0, 0, 0, 0, 0, 0, 0, 0, 0, 0, 0, 0, 0, 0, 0, 1, OPEN,
-    ];
+    /// The device whose first slot holds 5, and whose second is closed.
+    const FIVE: [u8; 18] = [0, 0, 0, 0, 0, 0, 0, 5, OPEN, 0, 0, 0, 0, 0, 0, 0, 0, 0];
 
-    /// The device whose slots hold 5 and 9, and which is tied to cluster 1.
-    const FIVE_NINE: [u8; 27] = [
-        0, 0, 0, 0, 0, 0, 0, 5, OPEN, 0, 0, 0, 0, 0, 0, 0, 9, OPEN, 0, 0, 0, 0, 0, 0, 0, 1, OPEN,
-    ];
+    /// The device whose slots hold 5 and 9.
+    const FIVE_NINE: [u8; 18] = [0, 0, 0, 0, 0, 0, 0, 5, OPEN, 0, 0, 0, 0, 0, 0, 0, 9, OPEN];
 
     /// Loads, and saves a number that is above what was held. Gives what was held.
     fn raise<D: Disk>(disk: &mut D, x: u64) -> Result<Option<u64>, CellFault> {
-        let (mut cell, held) = Cell::load(disk, 1)?;
+        let (mut cell, held) = Cell::load(disk)?;
         if held.is_none_or(|kept| kept < x) {
             cell.save(disk, x)?;
         }
@@ -333,7 +261,7 @@ mod tests {
 
     /// What a device of these bytes holds.
     fn loaded(bytes: Vec<u8>) -> Result<Option<u64>, CellFault> {
-        Ok(Cell::load(&mut MemoryDisk::new(bytes), 1)?.1)
+        Ok(Cell::load(&mut MemoryDisk::new(bytes))?.1)
     }
 
     fn failing(
@@ -347,59 +275,17 @@ mod tests {
 
     #[test]
     fn slots_take_turns(rt: HostRuntime) -> Result<(), Fail> {
-        let mut disk = MemoryDisk::new([0; 27].to_vec(rt.alloc())?);
+        let mut disk = MemoryDisk::new([0; 18].to_vec(rt.alloc())?);
         for (x, held) in [(5, None), (9, Some(5)), (12, Some(9)), (12, Some(12))] {
             assert_eq!(rt; raise(&mut disk, x), Ok(held), "raised to {x}");
         }
         let mut bytes = FIVE_NINE;
         bytes[7] = 12;
         assert_eq!(rt; disk.bytes(), bytes.as_slice());
-        if let Ok((cell, _)) = Cell::load(&mut disk, 1) {
-            assert_eq!(rt; cell.cluster(), 1);
-        }
-
-        let other = Cell::load(&mut disk, 2).map(|made| made.1);
-        assert_eq!(rt; other, Err(CellFault::OtherCluster(1)));
-        assert_eq!(rt; disk.bytes(), bytes.as_slice());
-        for length in [17usize, 18, 28] {
-            let mut bytes = Vec::new(rt.alloc());
-            bytes.resize(length, 0u8)?;
-            assert_eq!(rt; loaded(bytes), Err(CellFault::Damaged(length as u64)));
-        }
-        Ok(())
-    }
-
-    /// The calls are 3 of the load, then a write and a sync each for the cluster number and its gate.
-    #[test]
-    fn a_stop_leaves_the_device_tied_or_not(rt: HostRuntime) -> Result<(), Fail> {
-        let mut twelve_nine = [0; 27];
-        twelve_nine[..18].copy_from_slice(&FIVE_NINE[..18]);
-        twelve_nine[7] = 12;
-        for (start, held) in [([0; 27], None), (twelve_nine, Some(12))] {
-            for stop in 0..=7u64 {
-                for fill in [0, 0xFF, OPEN] {
-                    let mut disk = failing(rt.alloc(), &start, &[], stop)?;
-                    assert_eq!(rt;
-                        Cell::load(&mut disk, 7).is_err(),
-                        stop < 7,
-                        "stop at {stop}"
-                    );
-                    let left = disk.crash(fill);
-                    let mut other = MemoryDisk::new(left.clone()?);
-                    let is_tied = stop == 7 || fill == OPEN && stop >= 5;
-                    let found = Cell::load(&mut other, 8).map(|made| made.1);
-                    let wanted = if is_tied {
-                        Err(CellFault::OtherCluster(7))
-                    } else {
-                        Ok(held)
-                    };
-                    assert_eq!(rt; found, wanted, "stop at {stop}, {fill}");
-                    let mut own = MemoryDisk::new(left);
-                    let found = Cell::load(&mut own, 7).map(|made| made.1);
-                    assert_eq!(rt; found, Ok(held), "stop at {stop}, {fill}");
-                }
-            }
-        }
+        assert_eq!(rt;
+            loaded([0; 17].to_vec(rt.alloc())?),
+            Err(CellFault::Damaged(17))
+        );
         Ok(())
     }
 
@@ -432,22 +318,17 @@ mod tests {
         Ok(())
     }
 
-    /// The gate of the slot is closed, which takes a sync alone, so the calls are one fewer. A fresh device is tied first, which
-    /// takes 4 more.
+    /// The gate of the slot is closed, which takes a sync alone, so the calls are one fewer.
     #[test]
     fn a_stop_at_a_closed_slot_leaves_the_old_number_or_the_new_one(
         rt: HostRuntime,
     ) -> Result<(), Fail> {
-        for (start, before, calls) in [([0; 27], None, 12u64), (FIVE, Some(5), 8)] {
-            for stop in 0..=calls {
+        for (start, before) in [([0; 18], None), (FIVE, Some(5))] {
+            for stop in 0..=8u64 {
                 for fill in [0, 0xFF, OPEN] {
                     let mut disk = failing(rt.alloc(), &start, &[], stop)?;
-                    assert_eq!(rt;
-                        raise(&mut disk, 12).is_err(),
-                        stop < calls,
-                        "stop at {stop}"
-                    );
-                    let is_new = stop == calls || fill == OPEN && stop >= calls - 2;
+                    assert_eq!(rt; raise(&mut disk, 12).is_err(), stop < 8, "stop at {stop}");
+                    let is_new = stop == 8 || fill == OPEN && stop >= 6;
                     let held = if is_new { Some(12) } else { before };
                     assert_eq!(rt;
                         loaded(disk.crash(fill)),

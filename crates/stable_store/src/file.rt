@@ -2,7 +2,6 @@
 
 ghost use Rattle.std.specs.Prelude.{◌≡◌, ◌≤◌, ℕ, None, false, IfOk};
 ghost use Rattle.jp_types.specs.Faults.{HasCause, Rose};
-ghost use Rattle.stable_store.specs.Files.{made_up};
 ghost use Rattle.std.proofs.Common.{rules};
 
 use crate::cell::LENGTH;
@@ -12,7 +11,6 @@ use std::fs::{File, OpenOptions};
 use std::io;
 use std::marker::Model;
 use std::os::unix::fs::FileExt;
-use std::path::Path;
 use std::rt::Files;
 
 /// A file of the system, of the length that it had when it was opened. It tells nothing of what it holds, and its failures
@@ -32,58 +30,27 @@ impl Model for FileDisk {
     ghost view = { λ disk. record { size = disk.length; faults = disk.faults } };
 }
 
-/// How many bytes a file has that names no cluster: the two slots alone.
-const SLOTS_LENGTH: u64 = 18;
-
-/// The length to which a file of this length is made up. A file that stopped on the way from the two slots to a whole device
-/// is made up too.
-fn made_up(length: u64) -> u64
-    ensures { result ≡ made_up length }
-{
-    if length == 0 || SLOTS_LENGTH <= length && length < LENGTH {
-        return LENGTH;
-    }
-    length
-}
-
-/// Syncs the folder in which a file stands, so that its name there outlives a loss of power.
-fn sync_folder<R: Files<File = File>>(rt: &R, path: &str) -> io::Result<()> {
-    let folder = match Path::new(path).parent() {
-        Some(folder) if !folder.as_str().is_empty() => File::open(rt, folder)?,
-        _ => File::open(rt, ".")?,
-    };
-    folder.sync_all()
-}
-
-/// Opens a file, or makes one, and gives its length. The folder is synced before a file without bytes is made up, so a file
-/// that has bytes is one whose name is on the device.
-fn open_or_make<R: Files<File = File>>(rt: &R, path: &str) -> io::Result<(File, u64)>
-    ensures { IfOk result (λ opened. (found : ℕ) × (opened.1 ≡ made_up found)) }
-{
+/// Opens a file, or makes one. A file without bytes becomes a fresh device, and is synced before anything else.
+fn open_or_make<R: Files<File = File>>(rt: &R, path: &str) -> io::Result<(File, u64)> {
     let file = OpenOptions::new()
         .read(true)
         .write(true)
         .create(true)
         .truncate(false)
         .open(rt, path)?;
-    let found = file.metadata()?.len();
-    if found == 0 {
-        sync_folder(rt, path)?;
+    let length = file.metadata()?.len();
+    if length > 0 {
+        return Ok((file, length));
     }
-    let length = made_up(found);
-    if length != found {
-        file.set_len(length)?;
-        file.sync_all()?;
-    }
-    Ok((file, length))
+    file.set_len(LENGTH)?;
+    file.sync_all()?;
+    Ok((file, LENGTH))
 }
 
 impl FileDisk {
-    /// Opens a file as a device. Before anything else a missing or empty file, or one of 18 to 26 bytes, is made up with zero
-    /// bytes to 27, and synced. So a file of the two slots alone keeps its number, and is tied to no cluster.
+    /// Opens a file as a device. A missing or empty file is made a fresh device of 18 zero bytes.
     pub fn open<R: Files<File = File>>(rt: &R, path: &str) -> io::Result<FileDisk>
-        ensures size { IfOk result (λ disk. (found : ℕ) × (disk.size ≡ made_up found)) }
-        ensures faults { IfOk result (λ disk. disk.faults ≡ 0) }
+        ensures { IfOk result (λ disk. disk.faults ≡ 0) }
     {
         let (file, length) = open_or_make(rt, path)?;
         Ok(FileDisk {
@@ -178,18 +145,16 @@ mod tests {
     /// The byte of an open gate.
     const OPEN: u8 = 0xA5;
 
-    /// The device whose first slot holds 5, whose second is closed, and which is tied to cluster 1.
-    const FIVE: [u8; 27] = [
-        0, 0, 0, 0, 0, 0, 0, 5, OPEN, 0, 0, 0, 0, 0, 0, 0, 0, 0, 0, 0, 0, 0, 0, 0, 0, 1, OPEN,
-    ];
+    /// The device whose first slot holds 5, and whose second is closed.
+    const FIVE: [u8; 18] = [0, 0, 0, 0, 0, 0, 0, 5, OPEN, 0, 0, 0, 0, 0, 0, 0, 0, 0];
 
-    /// The two slots alone, which hold 12 and 9.
-    const TWELVE_NINE: [u8; 18] = [0, 0, 0, 0, 0, 0, 0, 12, OPEN, 0, 0, 0, 0, 0, 0, 0, 9, OPEN];
+    /// The device whose slots hold 5 and 9.
+    const FIVE_NINE: [u8; 18] = [0, 0, 0, 0, 0, 0, 0, 5, OPEN, 0, 0, 0, 0, 0, 0, 0, 9, OPEN];
 
     /// The bytes that a crash leaves, where a load and a save of 12 stop at a call.
     fn left(alloc: Global, start: &[u8], stop: u64, fill: u8) -> Result<Vec<u8>, NoMemory> {
         let mut disk = FailingDisk::new(start.to_vec(alloc)?, Vec::new(alloc), stop)?;
-        if let Ok((mut cell, held)) = Cell::load(&mut disk, 1) {
+        if let Ok((mut cell, held)) = Cell::load(&mut disk) {
             if held.is_none_or(|kept| kept < 12) {
                 let _stopped = cell.save(&mut disk, 12);
             }
@@ -202,57 +167,31 @@ mod tests {
         let path = "stable_store_outlives.cell";
         let _missing = fs::remove_file(&rt, path);
         let mut disk = FileDisk::open(&rt, path)?;
-        assert_eq!(rt; fs::read(&rt, path)?.as_slice(), [0u8; 27].as_slice());
-        if let Ok((mut cell, None)) = Cell::load(&mut disk, 1) {
+        assert_eq!(rt; fs::read(&rt, path)?.as_slice(), [0u8; 18].as_slice());
+        if let Ok((mut cell, None)) = Cell::load(&mut disk) {
             assert_eq!(rt; cell.save(&mut disk, 5), Ok(()));
         }
-        assert_eq!(rt; fs::read(&rt, path)?.as_slice(), FIVE.as_slice());
 
         let mut again = FileDisk::open(&rt, path)?;
-        assert!(rt; matches!(Cell::load(&mut again, 1), Ok((_, Some(5)))));
-        assert!(rt; matches!(Cell::load(&mut again, 2), Err(CellFault::OtherCluster(1))));
-        assert_eq!(rt; fs::read(&rt, path)?.as_slice(), FIVE.as_slice());
+        assert!(rt; matches!(Cell::load(&mut again), Ok((_, Some(5)))));
+
         fs::write(&rt, path, [0u8; 17])?;
-        assert!(rt; matches!(Cell::load(&mut again, 1), Err(CellFault::Disk)));
-
-        for length in [17usize, 28] {
-            let mut bytes = Vec::new(rt.alloc());
-            bytes.resize(length, 0u8)?;
-            fs::write(&rt, path, bytes.as_slice())?;
-            let mut other = FileDisk::open(&rt, path)?;
-            let loaded = Cell::load(&mut other, 1).map(|made| made.1);
-            assert_eq!(rt; loaded, Err(CellFault::Damaged(length as u64)));
-        }
+        assert!(rt; matches!(Cell::load(&mut again), Err(CellFault::Disk)));
+        let mut short = FileDisk::open(&rt, path)?;
+        assert!(rt; matches!(Cell::load(&mut short), Err(CellFault::Damaged(17))));
         fs::remove_file(&rt, path)?;
         Ok(())
     }
 
-    /// A file of the two slots alone keeps its number, and is tied to the cluster for which it is loaded first.
-    #[test]
-    fn a_file_of_two_slots_is_made_up(rt: HostRuntime) -> Result<(), Fail> {
-        let path = "stable_store_slots.cell";
-        fs::write(&rt, path, TWELVE_NINE)?;
-        let mut disk = FileDisk::open(&rt, path)?;
-        assert!(rt; matches!(Cell::load(&mut disk, 7), Ok((_, Some(12)))));
-        let mut again = FileDisk::open(&rt, path)?;
-        assert!(rt; matches!(Cell::load(&mut again, 1), Err(CellFault::OtherCluster(7))));
-        assert!(rt; matches!(Cell::load(&mut again, 7), Ok((_, Some(12)))));
-        fs::remove_file(&rt, path)?;
-        Ok(())
-    }
-
-    /// The calls are 3 of the load, 4 more where the device is tied to none, then a sync, or a write and a sync where the slot
-    /// was open, for the closed gate, and a write and a sync each for the number and the open gate. The last but one opens it.
+    /// The calls are 3 of the load, then a sync, or a write and a sync where the slot was open, for the closed gate, and a
+    /// write and a sync each for the number and the open gate. The last but one opens the gate.
     #[test]
     fn a_file_has_the_old_number_or_the_new_one(rt: HostRuntime) -> Result<(), Fail> {
         let path = "stable_store_stops.cell";
-        let mut five_nine = FIVE;
-        five_nine[16] = 9;
-        five_nine[17] = OPEN;
         for (start, before, opens, calls) in [
-            ([0; 27], None, 10, 12u64),
+            ([0; 18], None, 6, 8u64),
             (FIVE, Some(5), 6, 8),
-            (five_nine, Some(9), 7, 9),
+            (FIVE_NINE, Some(9), 7, 9),
         ] {
             for stop in 0..=calls {
                 for fill in [0, 0xFF, OPEN] {
@@ -260,7 +199,7 @@ mod tests {
                     let mut disk = FileDisk::open(&rt, path)?;
                     let is_new = stop == calls || fill == OPEN && stop >= opens;
                     let held = if is_new { Some(12) } else { before };
-                    let loaded = Cell::load(&mut disk, 1).map(|made| made.1);
+                    let loaded = Cell::load(&mut disk).map(|made| made.1);
                     assert_eq!(rt; loaded, Ok(held), "{before:?}, stop at {stop}, {fill}");
                 }
             }

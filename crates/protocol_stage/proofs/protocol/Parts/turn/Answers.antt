@@ -1,15 +1,13 @@
 use Rattle.std.proofs.Common.{◌≡◌, ℕ, Option, Some, sym, ap, subst, ◌∙◌}
 use Rattle.std.proofs.lemmas.Result.{on_ok_weaker}
 use Rattle.stable_store.proofs.Moments.{widened}
-use Rattle.stable_store.specs.Disks.{LeavesOnly}
-use Rattle.stable_store.specs.Slots.{IsTied, Loads}
-use Rattle.protocol_core.specs.declared.config.Config.{Config}
+use Rattle.stable_store.specs.Slots.{Loads}
 use Rattle.protocol_core.specs.declared.life.Life.{Life}
 use Rattle.protocol_stage.specs.Performing.{LoadsOneOf, stored_after}
 use Rattle.protocol_stage.specs.Running.{IsSteady}
 use Rattle.protocol_core.specs.Turning.{turn}
-use Rattle.protocol_stage.proofs.StableLemmas.{turn_config, turn_steady, turn_stores}
-use Rattle.protocol_stage.proofs.StoringLemmas.{loads_one_of, stands_tied}
+use Rattle.protocol_stage.proofs.StableLemmas.{turn_steady, turn_stores}
+use Rattle.protocol_stage.proofs.StoringLemmas.{loads_one_of}
 use Rattle.protocol_stage.proofs.protocol.Parts.turn.Goals as goal
 
 pub returns-clause-stable : goal.returns-clause-stable
@@ -22,7 +20,6 @@ returns-clause-stable g c =
     on_ok_weaker c.perform.result (λ held. record {
       holds = held ∙ stores ∙ ap (λ (l : Life). Some l.stable) (sym life);
       steady = subst IsSteady (sym life) (turn_steady old c.args.item c.args.room steady);
-      tied = c.perform.ensures.tie ∙ c.requires.stable.tied ∙ ap (λ (k : Config). Some k.cluster) (sym (ap (λ (l : Life). l.config) life ∙ turn_config old c.args.item c.args.room));
     }) c.perform.ensures.held
 
 pub returns-clause-loads : goal.returns-clause-loads
@@ -52,25 +49,3 @@ returns-clause-untouched g c same =
     ap (stored_after before) c.in_ok-acts.ensures.acts ∙ turn_stores old c.args.item c.args.room c.requires.stable.steady
     in
     c.perform.ensures.untouched (sym (stores ∙ ap (λ (n : ℕ). Some n) same))
-
-pub returns-clause-config : goal.returns-clause-config
-returns-clause-config g c =
-    let old = c.args.self.now.life in
-    let turned = turn old c.args.item c.args.room in
-    let life : c.perform.new.self.life ≡ turned.life = c.perform.ensures.life ∙ c.in_ok-acts.ensures.life in
-    ap (λ (l : Life). l.config) life ∙ turn_config old c.args.item c.args.room
-
-pub returns-clause-tie_at_any_moment : goal.returns-clause-tie_at_any_moment
-returns-clause-tie_at_any_moment g c =
-    let disk = g.D.Disk in
-    subst (λ (tie : Option ℕ). LeavesOnly disk.moment disk.left_since c.args.disk.now c.perform.new.disk (IsTied tie)) c.requires.stable.tied c.perform.ensures.tie_at_any_moment
-
-pub returns-clause-tied : goal.returns-clause-tied
-returns-clause-tied g c =
-    let old = c.args.self.now.life in
-    let turned = turn old c.args.item c.args.room in
-    let disk = g.D.Disk in
-    let new = c.perform.new.disk in
-    let life : c.perform.new.self.life ≡ turned.life = c.perform.ensures.life ∙ c.in_ok-acts.ensures.life in
-    let is = c.perform.ensures.tie ∙ c.requires.stable.tied ∙ ap (λ (k : Config). Some k.cluster) (sym (ap (λ (l : Life). l.config) life ∙ turn_config old c.args.item c.args.room)) in
-    on_ok_weaker c.perform.result (λ stands image left. stands_tied c.perform.new.self.cell (disk.size new) (disk.seen new) (disk.may_leave new) stands image left ∙ is) c.perform.ensures.stands

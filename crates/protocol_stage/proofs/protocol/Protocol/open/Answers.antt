@@ -9,5 +9,4 @@ invariant_of-result g c up =
     record {
       holds = c.in-Ok.ensures.held ∙ c.requires.stores ∙ ap (λ (l : Life). Some l.stable) life;
       steady = subst IsSteady life c.requires.steady;
-      tied = c.perform.ensures.tie ∙ c.requires.tied ∙ ap (λ (l : Life). Some l.config.cluster) life;
     }

@@ -1,12 +1,11 @@
-use Rattle.std.proofs.Common.{◌⊎◌, ◌∙◌, inl, inr, ⊎_elim, ℕ, List, Option, Some, subst}
-use Rattle.stable_store.proofs.Moments.{both, follows, widened}
-use Rattle.stable_store.specs.Slots.{IsTied, TiedFrom}
+use Rattle.std.proofs.Common.{◌⊎◌, inl, inr, ⊎_elim, ℕ, List, Option, Some, subst}
+use Rattle.stable_store.proofs.Moments.{follows, widened}
 use Rattle.protocol_core.specs.declared.act.Act.{Act}
 use Rattle.protocol_stage.specs.Performing.{LoadsOneOf, Repeats}
 use Rattle.protocol_stage.specs.Repeating.{Repeating}
-use Rattle.protocol_stage.specs.Running.{HasBegun, IsHeld, IsOpened, LeftAtStart, Running}
+use Rattle.protocol_stage.specs.Running.{HasBegun, IsHeld, IsOpened, LoadsAtOpening, Running}
 use Rattle.protocol_core.specs.Turned.{Turned}
-use Rattle.protocol_stage.specs.Following.{FollowsOpening, LeavesAtStart, model_config, model_slots}
+use Rattle.protocol_stage.specs.Following.{FollowsOpening, LoadsAtStart, model_config, model_slots}
 use Rattle.protocol_stage.proofs.Following.{opens-follow, stops-at-start}
 use Rattle.protocol_stage.proofs.OpeningLemmas.{at_opening}
 use Rattle.protocol_stage.proofs.ResultLemmas.{if_ok_weaker}
@@ -41,14 +40,10 @@ returns-clause-any_moment g c =
     let disk = g.D.Disk in
     let old = c.args.disk.now in
     let middle = c.begin_life.new.disk in
-    let new = c.open.new.disk in
-    let config = c.args.config.now in
-    let P : List ℕ → Type 0 = LeftAtStart config (disk.seen old) (disk.may_leave old) in
-    let Q : List ℕ → Type 0 = λ image. LoadsOneOf b.stored (Some b.life.stable) image × IsTied b.cell.tie image in
-    let loaded = widened disk.moment disk.left_since old middle P (TiedFrom config.cluster (disk.seen old) (disk.may_leave old)) c.begin_life.ensures.any_moment (λ image left. inl left) in
-    let opened = both disk.moment disk.left_since middle new (LoadsOneOf b.stored (Some b.life.stable)) (IsTied b.cell.tie) c.open.ensures.any_moment c.open.ensures.tie_at_any_moment in
-    follows disk.moment disk.left_since old middle new P Q loaded opened
-    (λ image has. inr (has.1 ∙ c.in_ok-begun.ensures.tied, (b.stored, c.in_ok-begun.ensures.is_held, at_opening config b.stored t c.in_ok-begun.ensures.opens image has.0)))
+    let P : List ℕ → Type 0 = λ image. disk.may_leave old image ⊎ ((stored : Option ℕ) × IsHeld (disk.seen old) stored × LoadsAtOpening c.args.config.now stored image) in
+    let loaded = widened disk.moment disk.left_since old middle P (disk.may_leave old) c.begin_life.ensures.any_moment (λ image left. inl left) in
+    follows disk.moment disk.left_since old middle c.open.new.disk P (LoadsOneOf b.stored (Some b.life.stable)) loaded c.open.ensures.any_moment
+    (λ image loads. inr (b.stored, c.in_ok-begun.ensures.is_held, at_opening c.args.config.now b.stored t c.in_ok-begun.ensures.opens image loads))
 
 pub returns-clause-follows : goal.returns-clause-follows
 returns-clause-follows g c =
@@ -67,7 +62,9 @@ returns-clause-stops g c =
     let old = c.args.disk.now in
     let config = c.args.config.now in
     let slots = model_slots (g.A.Arms.slots c.args.arms) in
-    let P : List ℕ → Type 0 = LeftAtStart config (disk.seen old) (disk.may_leave old) in
-    let Q : List ℕ → Type 0 = LeavesAtStart (model_config config) slots config.cluster (disk.seen old) (disk.may_leave old) in
+    let P : List ℕ → Type 0 = λ image. disk.may_leave old image ⊎ ((stored : Option ℕ) × IsHeld (disk.seen old) stored × LoadsAtOpening config stored image) in
+    let Q : List ℕ → Type 0 =
+    λ image. disk.may_leave old image ⊎ ((stored : Option ℕ) × IsHeld (disk.seen old) stored × ((number : ℕ) → LoadsAtStart (model_config config) slots number stored image))
+    in
     widened disk.moment disk.left_since old c.open.new.disk Q P (returns-clause-any_moment g c)
-    (λ image loads. ⊎_elim (λ l. inl l) (λ l. inr (l.0, (l.1.0, l.1.1, λ number. stops-at-start config slots number l.1.0 image l.1.2))) loads)
+    (λ image loads. ⊎_elim (λ l. inl l) (λ l. inr (l.0, l.1, λ number. stops-at-start config slots number l.0 image l.2)) loads)
